@@ -46,7 +46,7 @@ module _ (b : List ℕ) (d : Declared) (t : Script) (names : List Text) (loops :
   abbrev judged : Sheet → Answer
   judged c = of_certificate b d (script_of b t) (functions_in b t) c
 
-  -- the rest of the answer behind each step
+  -- the rest of the answer after each step
   abbrev behind_text : Result GivenSheet ℕ → Answer
   behind_text r = of_claims (given_fits names loops (length (functions_in b t))) (λ g. judged (filled_to filled g)) r
 
@@ -191,7 +191,8 @@ module _ (b : List ℕ) (d : Declared) (t : Script) (names : List Text) (loops :
   abbrev ComputedBy : Result Verdict Refusal → Sheet → Type 0
   ComputedBy x filled = shown x ≡ computed b d (script_of b t) (functions_in b t) names loops filled text
 
-  -- a verdict is on a certificate to which what is given is filled; a refusal is the same whatever that is
+  -- a verdict is on a certificate to which what is given is filled; a refusal is the same whatever
+  -- that is
   judged_by : (x : Result Verdict Refusal) → Checks b d text x → is_told x ≡ true → ((c : Sheet) × IsFilledBy b t names loops text c) ⊎ ((filled : Sheet) → ComputedBy x filled)
   unfolding shown is_told
   judged_by (Ok Pass) h k =

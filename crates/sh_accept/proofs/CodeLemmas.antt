@@ -1,4 +1,5 @@
--- No demand has the code of quoting, and each place outside quotes has it; so none of both is told twice.
+-- No demand has the code of quoting, and each place outside quotes has it; so none of both is
+-- reported twice.
 use Rattle.std.proofs.Common.{◌≡◌, ℕ, Bool, true, false, not, if◌then◌else◌, List, [], ◌∷◌, ◌++◌, map, Option, Some, None, Ok, inl, inr, refl, sym, ◌∙◌, ap, true≢false}
 use Rattle.std.specs.List.{Contains, flat_map, list_all}
 use Rattle.std.proofs.lemmas.Bool.{and_from, and_parts, cases_Bool}

@@ -1,4 +1,5 @@
--- The compact form of a certificate has a text if the certificate has one, and fits a script if the certificate does.
+-- The compact form of a certificate has a text if the certificate has one, and fits a script if the
+-- certificate does.
 use Rattle.std.proofs.Common.{◌≡◌, ℕ, ◌+◌, ◌≤◌, nat_eq, nat_le, Bool, true, false, ◌&&◌, List, [], ◌∷◌, length, Option, Some, None, refl, sym, ap₂, arith, true≢false}
 use Rattle.std.specs.List.{list_all}
 use Rattle.std.proofs.lemmas.Bool.{and_parts}

@@ -1,4 +1,5 @@
--- A certificate that claims more leaves no place unmet that one with less claims meets: a case for each piece of a program.
+-- A certificate that claims more leaves no place unmet that one with less claims meets: a case for
+-- each piece of a program.
 use Rattle.std.proofs.Common.{◌≡◌, ℕ, Bool, true, false, not, ◌&&◌, ◌||◌, if◌then◌else◌, List, [], ◌∷◌, ◌++◌, map, Option, Some, None, refl, sym, ◌∙◌, ap, subst}
 use Rattle.std.specs.List.{flat_map, fold, list_any}
 use Rattle.std.specs.Str.{bytes_eq}
@@ -28,7 +29,7 @@ use Rattle.sh_domain.proofs.MonotoneLemmas.{step_grows, loss_falls}
 use Rattle.sh_domain.proofs.OrderLemmas.{within_itself}
 use Rattle.sh_accept.proofs.DistinctLemmas.{in_fold}
 
--- all that stands in the second row stands in the first
+-- all that is in the second row is in the first
 pub record Falls {A : Type 0} (xs ys : List A) : Type 0 where
   pub kept : (test : A → Bool) → list_any test ys ≡ true → list_any test xs ≡ true
 
@@ -216,7 +217,7 @@ in_once : (names xs : List Text) (u : Text) → is_one_of (fold with_text names 
 unfolding with_text
 in_once names xs u = in_fold names xs u
 
--- texts of which each stands in other ones
+-- texts, each of which is in other ones
 text_found : (test : Text → Bool) (xs : List Text) (y : Text) → is_one_of xs y ≡ true → test y ≡ true → list_any test xs ≡ true
 text_found test [] y e k = e
 text_found test (x ∷ xs) y e k = go (bytes_eq x y) refl e (λ r. text_found test xs y r k)

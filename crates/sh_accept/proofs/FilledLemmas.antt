@@ -1,4 +1,5 @@
--- A compact certificate of a script that is read is filled to one certificate at most, whatever the numbering.
+-- A compact certificate of a script that is read is filled to one certificate at most, whatever the
+-- numbering.
 use Rattle.std.proofs.Common.{◌≡◌, ℕ, Bool, true, List, [], length, Result, Ok, refl, sym, ◌∙◌, ap, subst}
 use Rattle.std.specs.List.{filter_map}
 use Rattle.sh_tree.specs.Answers.{Parses}
@@ -51,7 +52,7 @@ module _ (b : List ℕ) (d : Declared) (t : Script) (names : List Text) (loops :
   pub tree_is : (u : Script) → Parses b (Ok u) → u ≡ t
   tree_is u h = read.reading.2 u (MAX_NESTING, h.1.0, h.1.1)
 
-  -- and its loops are told in one way
+  -- and its loops are known in one way
   pub loops_are : (others : List Bool) → AreLoops t others → others ≡ loops
   loops_are others are = one_order b t MAX_NESTING read.reading.1.0 read.reading.1.1 loops others read.are_loops are
 

@@ -19,7 +19,7 @@ use Rattle.sh_answers.specs.declared.verdict.Finding.{Finding}
 use Rattle.sh_accept.specs.Computed.{placed, in_order}
 use Rattle.sh_accept.proofs.SortLemmas.{Least, Rises, times, one_order, rises_sorted}
 
--- The order tells all findings apart
+-- The order separates all findings
 
 pub contents_total : IsTotalOrder contents_cmp
 contents_total =

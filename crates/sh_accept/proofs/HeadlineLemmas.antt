@@ -1,4 +1,4 @@
--- A script of which a certificate is accepted is safe.
+-- A script with an accepted certificate is safe.
 use Rattle.std.proofs.Common.{◌≡◌, ℕ, true, not, None, List, is_some, ap, ◌∙◌}
 use Rattle.std.specs.List.{list_all}
 use Rattle.sh_tree.specs.declared.limits.TheConstants.{MAX_NESTING}
@@ -21,7 +21,7 @@ use Rattle.sh_accept.specs.Theorem.{IsSafe, Headline}
 reads_within : (b : List ℕ) (t : Script) → ReadsWithin b t → Reads b t
 reads_within b t h = (MAX_NESTING, h.0, h.1)
 
--- where no command is refused the program is admitted
+-- if no command is refused, the program is admitted
 admitted : (t : Items) → first_refused t ≡ None → is_admitted t ≡ true
 admitted t h = admitted_as_listed t ∙ ap (λ o. not (is_some o)) h
 

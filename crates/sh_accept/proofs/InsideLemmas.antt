@@ -1,4 +1,4 @@
--- What refuses a script is told inside it.
+-- What refuses a script is reported inside it.
 use Rattle.std.proofs.Common.{◌≡◌, ◌==◌, ℕ, ◌<◌, List, length, nat_lt, true, Err, subst}
 use Rattle.std.proofs.lemmas.Bool.{ltb-true}
 use Rattle.std.proofs.lemmas.List.Quantifiers.{position-Some}

@@ -1,4 +1,5 @@
--- The greatest certificate is what its compact form is filled to: one that states the same and keeps the rules round commands could be joined to it.
+-- The greatest certificate is what its compact form is filled to: one that states the same and
+-- keeps the rules round commands could be joined to it.
 use Rattle.std.proofs.Common.{◌≡◌, ℕ, zero, suc, ◌-◌, nat_le, max, Bool, true, false, ◌&&◌, ◌||◌, List, [], ◌∷◌, ◌++◌, filter, length, slice_get, unwrap_or, refl, sym, ◌∙◌, ap, ap₂, subst, arith, true≢false}
 use Rattle.std.specs.List.{flat_map}
 use Rattle.std.proofs.lemmas.Bool.{and_parts}

@@ -1,4 +1,5 @@
--- The commands of a script that is read have one order by their numbers, so which of them are loops is told in one way.
+-- The commands of a script that is read have one order by their numbers, so which of them are loops
+-- is known in one way.
 use Rattle.std.proofs.Common.{◌≡◌, ℕ, suc, ◌+◌, ◌<◌, ◌≤◌, ◌==◌, Bool, true, false, ◌&&◌, cond, nat_le, List, [], ◌∷◌, map, length, get_or, refl, sym, ap, ap₂, ◌∙◌, arith, inl, inr, eq-eqb}
 use Rattle.std.specs.Borrow.{Bor}
 use Rattle.std.specs.List.{sum, sum_by}
@@ -37,7 +38,7 @@ other_bit : (s t : Bool) → t ≡ false → one_if (s && t) ≡ 0
 other_bit true t e = ap one_if e
 other_bit false t e = refl
 
--- Lists with the same elements, whose numbers do not fall and stand once each
+-- Lists with the same elements, whose numbers do not fall and occur once each
 
 module _ {X : Type 0} (number : X → ℕ) where
   abbrev any : X → Bool
@@ -128,7 +129,7 @@ module _ {X : Type 0} (number : X → ℕ) where
 abbrev number_of : Bor Command → ℕ
 number_of c = (out-Command c.now).number
 
--- by the commands of the tree, in whatever order they stand
+-- by the commands of the tree, in whatever order they are
 times_in : (q : Command → Bool) (n : ℕ) (t : Script) (cs : List (Bor Command)) → IsPermutation (commands_of t) (map (λ (c : Bor Command). c.now) cs)
     → times number_of (λ c. q c.now) n cs ≡ sum_by (λ c. one_if (q c && ((out-Command c).number == n))) (commands_of t)
 times_in q n t cs same =

@@ -1,4 +1,5 @@
--- The findings of a report stand once each: two offsets have two places, and no place is told twice.
+-- The findings of a report occur once each: two offsets have two places, and no place is reported
+-- twice.
 use Rattle.std.proofs.Common.{◌≡◌, ℕ, zero, suc, ◌+◌, ◌<◌, ◌≤◌, ◌==◌, ◌⊎◌, inl, inr, Bool, true, false, if◌then◌else◌, List, [], ◌∷◌, map, length, take, fold, get_or, Ok, refl, sym, ◌∙◌, ap, arith}
 use Rattle.std.specs.List.{Contains}
 use Rattle.std.proofs.lemmas.Bool.{cases_lt}
@@ -31,7 +32,7 @@ use Rattle.sh_accept.proofs.SortLemmas.{once_reordered}
 
 -- Offsets
 
--- behind n bytes more the line is a later one, or it is the same and the column is as many further
+-- after n more bytes the line is a later one, or it is the same and the column is as many further
 abbrev Moved : ℕ × ℕ → ℕ × ℕ → ℕ → Type 0
 Moved p r n = (p.0 < r.0) ⊎ ((p.0 ≡ r.0) × (p.1 + n ≡ r.1))
 

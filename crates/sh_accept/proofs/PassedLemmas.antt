@@ -1,4 +1,5 @@
--- The text of the greatest certificate reads as it, and its compact text as what is filled to it; so where it is accepted these texts pass.
+-- The text of the greatest certificate reads as it, and its compact text as what is filled to it;
+-- so if it is accepted these texts pass.
 use Rattle.std.proofs.Common.{◌≡◌, ◌≤◌, ℕ, nat_le, nat_eq, Bool, true, false, ◌&&◌, List, length, Ok, Vec, refl, sym, ◌∙◌, subst, arith, true≢false}
 use Rattle.std.specs.declared.alloc.Global.{Global}
 use Rattle.std.proofs.lemmas.Bool.{and_parts}

@@ -1,4 +1,5 @@
--- A script that is read has names and loops: what is seen of it, and its commands, can be put in order.
+-- A script that is read has names and loops: what is seen of it, and its commands, can be put in
+-- order.
 use Rattle.std.proofs.Common.{◌≡◌, ℕ, zero, suc, ◌<◌, ◌≤◌, Bool, List, [], ◌∷◌, map, length, get_or, Ok, inl, inr, refl, subst, ap, arith, le_trans}
 use Rattle.std.specs.Borrow.{Bor}
 use Rattle.std.specs.List.{flat_map, insert}
@@ -19,7 +20,7 @@ use Rattle.sh_accept.specs.Computed.{IsRead}
 -- Putting in order by a number
 
 module _ {X : Type 0} (n : X → ℕ) where
-  -- where one more belongs: none before it has a greater number, and none behind it a lesser one
+  -- where one more belongs: none before it has a greater number, and none after it a lesser one
   record HasPlace (y : X) (xs : List X) : Type 0 where
     at : ℕ
     inside : at ≤ length xs

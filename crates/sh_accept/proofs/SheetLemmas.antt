@@ -47,7 +47,7 @@ same_text t u h = (bytes_eq-Decides t u).0 h
 itself : (t : Text) (ts : List Text) → is_one_of (t ∷ ts) t ≡ true
 itself t ts = ap (λ b. b || is_one_of ts t) ((bytes_eq-Decides t t).1 refl)
 
--- what is led stands behind
+-- what is led comes after
 led : (t u : Text) (us : List Text) → Leads t us → is_one_of us u ≡ true → precedes t u ≡ true
 unfolding Leads
 led t u [] l h = absurd (true≢false (sym h))

@@ -1,4 +1,4 @@
--- Two greatest certificates of a script are one, and so are two answers where no certificate is given.
+-- Two greatest certificates of a script are one, and so are two answers if no certificate is given.
 use Rattle.std.proofs.Common.{◌≡◌, ℕ, Bool, true, false, List, [], map, Result, Ok, Err, refl, sym, ◌∙◌, ap, subst}
 use Rattle.sh_tree.specs.declared.refusal.Refusal.{Refusal}
 use Rattle.sh_tree.specs.declared.refusal.Refusal.TheVariants.{TooLong, NulByte, Syntax, LeftOut, TooDeep, TooMany, Memory, Profile, CertSyntax, CertShape}

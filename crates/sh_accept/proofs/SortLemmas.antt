@@ -1,4 +1,4 @@
--- Of rows with the same elements only one is in order, where the order tells all elements apart.
+-- Of rows with the same elements only one is in order, if the order separates all elements.
 use Rattle.std.proofs.Common.{◌≡◌, ℕ, zero, suc, ◌≤◌, ◌<◌, ◌+◌, Bool, true, false, cond, List, [], ◌∷◌, length, map, get_or, inl, inr, refl, sym, ◌∙◌, ap, arith}
 use Rattle.std.specs.List.{Contains, sum_by}
 use Rattle.std.specs.List.Sorted.{IsPermutation, IsSortedByKey}
@@ -18,12 +18,12 @@ module _ {K : Type 0} (cmp : K → K → Ordering) (order : IsTotalOrder cmp) (e
   Least x [] = Unit {0}
   Least x (y ∷ ys) = (is_lt (cmp y x) ≡ false) × Least x ys
 
-  -- each is no greater than those behind it
+  -- each is no greater than those after it
   unfoldable pub Rises : List K → Type 0
   Rises [] = Unit {0}
   Rises (x ∷ xs) = Least x xs × Rises xs
 
-  -- how often an element stands in a row
+  -- how often an element occurs in a row
   abbrev pub times : K → List K → ℕ
   times x xs = sum_by (λ y. cond (is_eq (cmp x y)) 1 0) xs
 
@@ -94,7 +94,7 @@ module _ {K : Type 0} (cmp : K → K → Ordering) (order : IsTotalOrder cmp) (e
       go Equal e others = let first : x ≡ y = exact x y e in ap (λ z. z ∷ xs) first ∙ ap (λ zs. y ∷ zs) (others first)
       go Greater e others = absurd (more (order.antisymm y x ∙ ap ordering_reverse e))
 
-  -- Rows in which each stands once
+  -- Rows in which each occurs once
 
   abbrev one_if : Bool → ℕ
   one_if b = cond b 1 0

@@ -1,4 +1,5 @@
--- A command that is refused is one of the program, so its place is that of a spot: a case for each piece of a program.
+-- A command that is refused is one of the program, so its place is that of a spot: a case for each
+-- piece of a program.
 use Rattle.std.proofs.Common.{◌≡◌, ℕ, Bool, true, false, nat_lt, if◌then◌else◌, Option, Some, None, option_map, List, [], ◌∷◌, ◌++◌, filter_map, refl, sym, ◌∙◌, subst}
 use Rattle.std.specs.List.{list_all, cons_option}
 use Rattle.std.proofs.lemmas.Bool.{and_from, and_parts}

@@ -69,7 +69,7 @@ verdicts Should b text other status another single h k =
       h.status_is ∙ status_shown h.answer ∙ ap status_in same ∙ sym (status_shown k.answer) ∙ sym k.status_is,
     )
 
--- Where a certificate is shown
+-- When a certificate is shown
 
 -- the text of the greatest certificate is too long
 record IsLong (full : Bool) (b : List ℕ) (d : Declared) (e : Refusal) : Type 0 where

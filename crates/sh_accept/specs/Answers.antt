@@ -77,7 +77,7 @@ pub record HasFindings (b : List ℕ) (d : Declared) (text : Text) (fs : List Fi
 abbrev pub RefusesText : List ℕ → Declared → Text → Refusal → Type 0
 RefusesText b d text r = (t : Script) × (names : List Text) × IsAdmitted b d t names × ReadsGiven text t (length (functions_in b t)) names (Err r)
 
--- what a check of a certificate's text answers: Pass exactly where it is accepted
+-- what a check of a certificate's text answers: Pass exactly if it is accepted
 abbrev pub Checks : List ℕ → Declared → Text → Result Verdict Refusal → Type 0
 Checks b d text (Ok Pass) = IsAcceptedText b d text
 Checks b d text (Ok (Fail r)) = HasFindings b d text r.findings.items

@@ -13,7 +13,7 @@ use Rattle.sh_answers.specs.declared.task.Action.TheVariants.{Lint, Cert, Check,
 use Rattle.sh_answers.specs.declared.verdict.Verdict.{Verdict}
 use Rattle.sh_accept.specs.Answers.{Certifies, Checks, Lints, Prints}
 
--- the text and the status are those of an answer as it should be, other than out of memory
+-- the text and the status are those of an answer as it should be, other than that memory ran out
 pub record TellsVerdict (Should : Result Verdict Refusal → Type 0) (b text : List ℕ) (status : ℕ) : Type 0 where
   pub answer : Result Verdict Refusal
   pub answers : Should answer

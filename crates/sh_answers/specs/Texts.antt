@@ -92,7 +92,7 @@ refused_text script at reason = refused_place script at ++ reason ++ 10 ∷ []
 abbrev pub malformed_text : ℕ → List ℕ
 malformed_text line = codes "refused certificate line " ++ decimal line ++ codes ": malformed" ++ 10 ∷ []
 
--- out of memory has no text
+-- the refusal that memory ran out has no text
 abbrev pub refusal_text : List ℕ → Refusal → List ℕ
 refusal_text script TooLong = codes "refused: the script is longer than 1048576 bytes" ++ 10 ∷ []
 refusal_text script (NulByte at) = refused_text script at (codes "a NUL byte")
@@ -109,7 +109,7 @@ abbrev pub answer_text : List ℕ → Result Verdict Refusal → List ℕ
 answer_text script (Ok verdict) = verdict_text verdict
 answer_text script (Err refusal) = refusal_text script refusal
 
--- 0 clean, 1 findings or forged, 2 refused, 3 for out of memory
+-- 0 clean, 1 findings or forged, 2 refused, 3 out of memory
 abbrev pub status_of : Result Verdict Refusal → ℕ
 status_of (Ok Pass) = 0
 status_of (Ok (Fail report)) = 1

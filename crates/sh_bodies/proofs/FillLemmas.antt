@@ -28,7 +28,7 @@ use Rattle.sh_bodies.specs.Fill.{Filled, thread, fill, fill_target, fill_redirec
 
 -- lists
 
--- what comes of a list, behind what came of the list before it
+-- what comes of a list, after what came of the list before it
 abbrev pub behind : {A : Type 0} → List A → Filled (List A) → Filled (List A)
 behind found r = (found ++ r.0, r.1)
 

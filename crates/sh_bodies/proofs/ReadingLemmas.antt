@@ -38,7 +38,7 @@ use Rattle.sh_bodies.proofs.FillLemmas.{script_filled, item_filled, and_or_fille
 abbrev pub bodies : List Document → ℕ → states.Document
 bodies all = nth (map document_of all)
 
--- what is read without bodies, of which filling makes y with the bodies from the n-th to the m-th
+-- what is read without bodies: filling makes y of it, with the bodies from the n-th to the m-th
 pub record From {A : Type 0} (R : A → Type 0) (fill : List Document → A → Filled A) (all : List Document) (n m : ℕ) (y : A) : Type 0 where
   pub bare : A
   pub reads : R bare

@@ -39,12 +39,12 @@ pub plain_no : (x : Context) (prior i c : ℕ) (cs : List ℕ) → words.stands 
 unfolding words.plain_length
 plain_no x prior i c cs h = cond-false _ _ _ h
 
--- a closer stands for itself or does not, whatever follows
+-- a closer is literal or is not, whatever follows
 pub closer_stands : (x : Context) (prior i c : ℕ) (r r' : List ℕ) → is_closer c ≡ true → words.stands x prior i c r' ≡ words.stands x prior i c r
 unfolding words.stands words.is_tilde
 closer_stands x prior i c r r' h = let k = closer_plain c h in rw (k.dollar, k.tilde, k.backslash) refl
 
--- so many bytes stand for themselves, if they end before the closer
+-- so many bytes are literal, if they end before the closer
 pub plain_alike : (x : Context) (prior i c : ℕ) (w r r' : List ℕ) → is_closer c ≡ true → words.plain_length x prior i (w ++ c ∷ r) ≤ length w
     → words.plain_length x prior i (w ++ c ∷ r') ≡ words.plain_length x prior i (w ++ c ∷ r)
 plain_alike x prior i c [] r r' h k = by_bool (words.stands x prior i c r)

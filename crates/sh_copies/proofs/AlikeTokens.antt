@@ -20,7 +20,7 @@ use Rattle.sh_copies.proofs.AlikeBytes.{is_closer, closer_plain, by_bool, run_in
 use Rattle.sh_copies.proofs.AlikePlain.{stands_alike, closer_stands, plain_yes, plain_alike, tilde_alike}
 use Rattle.sh_copies.proofs.AlikeSigns.{name_alike, named_alike, braced_alike, parenthesis_alike}
 
--- no fault, no form that is left out, and the text does not end where the context may not
+-- no fault, no refused form, and the text does not end where the context may not
 abbrev pub is_sound : Sign → Bool
 is_sound sign.Open = false
 is_sound (sign.Fault f) = false

@@ -1,4 +1,4 @@
--- An expression is read wherever its bytes stand.
+-- An expression is read wherever its bytes are.
 -- POSIX.1-2024, XCU 2.6.4 (arithmetic expansion).
 use Rattle.std.proofs.Common.{◌≡◌, ℕ, ◌+◌, ◌<◌, ◌≤◌, true, ◌&&◌, List, [], ◌∷◌, ◌++◌, map, refl, sym, ap, ◌∙◌, le_refl, le_trans, arith, ⊎_elim}
 use Rattle.std.proofs.lemmas.Bool.{true≢false}
@@ -32,7 +32,7 @@ module _ {b b' : List ℕ} (c : Copied b b') where
   lexemes : {i i' : ℕ} → Place c i i' → i ≤ limit_of c → SameLexeme i i' (lexeme b i) (lexeme b' i')
   lexemes {i = i} {i' = i'} p h = ⊎_elim (λ same. lexeme_shifts b b' i i' (sym same)) (λ alike. lexeme_alike b b' i i' alike) (near c p h)
 
-  -- the token at the same spot, where it begins and what is after it
+  -- the token at the same spot: where it begins and what is after it
   pub record SameFigure (s s' : Spot) : Type 0 where
     pub is : figure_at b' s' ≡ figure_at b s
     pub start : Moved c (to (lexeme b s.at).start s) (to (lexeme b' s'.at).start s')

@@ -120,7 +120,7 @@ module _ (o : ℕ) (colons fields backquotes : Bool) where
   goes_on prior i v r (inl e) = inl e
   goes_on prior i v r (inr g) = inr (prior, i, g)
 
-  -- neither a backslash nor a backquote stands for itself
+  -- neither a backslash nor a backquote is literal
   backslash_stands : (prior i : ℕ) (cs : List ℕ) → words.stands outer prior i 92 cs ≡ false
   unfolding words.stands words.is_tilde
   backslash_stands prior i cs = rw (no_literal cs) refl
@@ -351,7 +351,7 @@ module _ (o : ℕ) (colons fields backquotes : Bool) where
       rw (a, b) refl
   opens_not_loose (c ∷ d ∷ v) r h = let a : is_backslash c ≡ false = grind (arith, nat_tests, h) in rw a refl
 
-  -- Bytes that stand for themselves
+  -- Literal bytes
 
   stands_other : (prior i a : ℕ) (cs cs' : List ℕ) → (a == 126) ≡ false → (a == 36) ≡ false → words.stands outer prior i a cs' ≡ words.stands outer prior i a cs
   unfolding words.stands words.is_tilde
@@ -448,7 +448,7 @@ module _ (o : ℕ) (colons fields backquotes : Bool) where
       ap (λ n. loose (drop n (c ∷ v)) r) (run_yes words.is_login_byte c v is) ∙ login_settled v r c (i + 1) more)
       (λ other. ap (λ n. loose (drop n (c ∷ v)) r) (run_no words.is_login_byte c v other) ∙ run_settled (c ∷ v) r prior i g)
 
-  -- a byte of such a run stands for itself in the copy
+  -- a byte of such a run is literal in the copy
   stands_run : (prior i a : ℕ) (v r r' : List ℕ) → words.ends_joined r ≡ true → is_first breaks r' ≡ true → GoesOn (drop (words.plain_length outer a (i + 1) (v ++ r)) v) r
       → words.stands outer prior i a (v ++ r) ≡ true → words.stands outer prior i a (v ++ r') ≡ true
   stands_run prior i a v r r' h k g is = by_bool (a == 126)
@@ -465,7 +465,7 @@ module _ (o : ℕ) (colons fields backquotes : Bool) where
   break_stops prior i [] h = absurd (true≢false (sym h))
   break_stops prior i (c ∷ cs) h = let ends : ends_token c ≡ true = grind (arith, nat_tests, h) in plain_no outer prior i c cs (rw ends refl)
 
-  -- so many bytes stand for themselves before whatever ends the word
+  -- so many bytes are literal before whatever ends the word
   pub plain_outer : (prior i : ℕ) (w r r' : List ℕ) → words.ends_joined r ≡ true → is_first breaks r' ≡ true → (n : ℕ) → words.plain_length outer prior i (w ++ r) ≡ n → n ≤ length w
       → GoesAt (before prior w n) (i + n) (drop n w) r → words.plain_length outer prior i (w ++ r') ≡ n
   unfolding before

@@ -246,7 +246,7 @@ module _ (o : ℕ) (colons fields backquotes : Bool) where
       found r' ∙ ap (words.sign_in x) (expansion_outer i c v r r' h k (sym (ap (λ f. is_whole f.0) same) ∙ whole) (let size = ap (λ f. f.1) same in omega arith)
       (λ value n size. behind (ap (λ f. is_value f.0) same ∙ value) n (ap (λ f. f.1) same ∙ size))) ∙ sym there
 
-  -- a byte that means nothing stands for itself
+  -- a byte that means nothing is literal
   other_stands : (prior i a : ℕ) (cs : List ℕ) → ends_token a ≡ false → (a == 126) ≡ false → (a == 36) ≡ false → (a == 92) ≡ false → (a == 39) ≡ false → (a == 34) ≡ false → (a == 96) ≡ false
       → words.stands x prior i a cs ≡ true
   unfolding words.stands words.is_tilde

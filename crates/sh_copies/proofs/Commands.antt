@@ -1,4 +1,4 @@
--- The commands of a substitution are read wherever their bytes stand.
+-- The commands of a substitution are read wherever their bytes are.
 -- POSIX.1-2024, XCU 2.6.3 (command substitution), 2.9 (commands), 2.10 (shell grammar).
 use Rattle.std.proofs.Common.{◌≡◌, ℕ, ◌+◌, ◌<◌, ◌≤◌, Bool, true, false, not, ◌||◌, List, [], ◌∷◌, drop, Option, Some, None, inr, refl, sym, ap, ◌∙◌, subst, arith}
 use Rattle.sh_tree.specs.declared.tree.AndOr.{AndOr}

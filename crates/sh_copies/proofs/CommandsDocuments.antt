@@ -181,7 +181,7 @@ turned_body : (m : Mark) → turned 0 (in_document_of m) ≡ in_document_of m
 unfolding in_document_of
 turned_body m = refl
 
--- the text that a body is read in, of which the body is the end
+-- the text that a body is read in, whose end is the body
 abbrev pub body_copy : (b b' v : List ℕ) (i i' k k' : ℕ) → k ≡ i + length v → k' ≡ i' + length v → take (length v) (drop i b) ≡ v → take (length v) (drop i' b') ≡ v → Copied (take k b) (take k' b')
 body_copy b b' v i i' k k' e e' h h' = record {
   from = i;

@@ -1,4 +1,4 @@
--- Redirections, here-documents and newlines are read wherever their bytes stand.
+-- Redirections, here-documents and newlines are read wherever their bytes are.
 -- POSIX.1-2024, XCU 2.7 (redirection), 2.7.4 (here-document), 2.10 (shell grammar).
 use Rattle.std.proofs.Common.{◌≡◌, ℕ, ◌+◌, ◌-◌, ◌<◌, ◌≤◌, Bool, true, false, not, ◌&&◌, ◌||◌, List, [], ◌∷◌, length, drop, take, inl, inr, refl, sym, ap, ◌∙◌, subst, arith, length-drop, length-take, ⊎_elim}
 use Rattle.std.specs.List.{list_any}

@@ -1,5 +1,5 @@
--- If no number sign stands where commands end, none stands where they begin: a comment that a
--- here-document must not hold is no token.
+-- If no number sign is where commands end, none is where they begin: a comment that a here-document
+-- must not hold is no token.
 -- POSIX.1-2024, XCU 2.3 (token recognition), 2.7.4 (here-document).
 use Rattle.std.proofs.Common.{◌≡◌, ℕ, Bool, true, false, List, [], ◌∷◌, ◌==◌, Option, drop, refl, ap, ◌∙◌, subst, eqb-true}
 use Rattle.std.proofs.lemmas.Bool.{cond-false}
@@ -30,7 +30,7 @@ use Rattle.sh_copies.proofs.AlikeBytes.{by_bool}
 use Rattle.sh_copies.proofs.Blanks.{is_number_sign}
 use Rattle.sh_copies.proofs.Leads.{lead_is_no_sign}
 
--- no number sign stands there
+-- no number sign is there
 abbrev pub NoSign : List ℕ → State → Type 0
 NoSign b s = is_first is_number_sign (drop s.spot.at b) ≡ false
 

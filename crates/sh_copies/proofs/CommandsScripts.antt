@@ -1,4 +1,4 @@
--- The commands of a substitution are read wherever their bytes stand, up to what closes them.
+-- The commands of a substitution are read wherever their bytes are, up to what closes them.
 -- POSIX.1-2024, XCU 2.6.3 (command substitution).
 use Rattle.std.proofs.Common.{◌≡◌, ℕ, ◌+◌, ◌-◌, ◌<◌, ◌≤◌, ◌==◌, true, List, [], ◌∷◌, ◌++◌, drop, take, ◌⊎◌, inl, inr, refl, sym, ap, ◌∙◌, subst, arith, eqb-true, append_assoc, ⊎_elim}
 use Rattle.std.proofs.lemmas.Bool.{true≢false}

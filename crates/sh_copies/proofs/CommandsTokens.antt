@@ -133,7 +133,7 @@ module _ {b b' : List ℕ} (c : Copied b b') (ahead : Ahead c) where
 
   -- Blanks
 
-  -- no number sign stands there, or the copy is followed by the same
+  -- no number sign is there, or the copy is followed by the same
   abbrev pub Ready : ℕ → Type 0
   Ready i = (c.rest' ≡ c.rest) ⊎ (is_first is_number_sign (drop i b) ≡ false)
 

@@ -1,4 +1,4 @@
--- Whole words and here-documents are read alike wherever their bytes stand.
+-- Whole words and here-documents are read alike wherever their bytes are.
 -- POSIX.1-2024, XCU 2.3 (token recognition), 2.7.4 (here-document).
 use Rattle.sh_copies.specs.Copied.{WordsAreCopied}
 use Rattle.sh_copies.proofs.CopiedMarks.{mark_copied}

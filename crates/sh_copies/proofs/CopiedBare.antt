@@ -41,7 +41,7 @@ edge_barrier (c ∷ cs) h =
     let e = edge c cs h in
     record { plain = λ x prior i word. plain_no x prior i c cs (edge_stands x prior i c cs word e); login = run_no words.is_login_byte c cs (edge_login c cs e) }
 
--- no backslash of a word stands for itself
+-- no backslash of a word is literal
 pub backslash_stands : (x : Context) (prior i : ℕ) (cs : List ℕ) → x.site ≡ site.Word → words.stands x prior i 92 cs ≡ false
 unfolding is_first
 backslash_stands x prior i cs word = word_stands x prior i 92 cs word ∙ last_false (not (ends_token 92)) (not (words.is_stripped x prior 92)) (not (words.is_tilde x prior i 92 cs)) _ (go cs)

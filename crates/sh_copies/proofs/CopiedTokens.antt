@@ -1,4 +1,4 @@
--- The token with which a whole word begins is a word wherever it stands.
+-- The token with which a whole word begins is a word wherever it is.
 -- POSIX.1-2024, XCU 2.3 (token recognition), 2.4 (reserved words), 2.9.1 (simple commands).
 use Rattle.std.proofs.Common.{◌≡◌, ℕ, suc, ◌+◌, ◌-◌, ◌<◌, ◌==◌, Bool, true, false, not, ◌&&◌, ◌||◌, if◌then◌else◌, Option, Some, None, List, [], ◌∷◌, ◌++◌, length, drop, take, refl, sym, ap, subst, ◌∙◌, ◌⊎◌, inl, inr, arith, append-nil, append_assoc, length-drop}
 use Rattle.std.proofs.Math.Bool.{and-false}
@@ -80,7 +80,7 @@ all_weaker p q weaker (c ∷ w) all =
 digit_bare : (c : ℕ) → is_digit c ≡ true → is_bare c ≡ true
 digit_bare c h = grind (arith, nat_tests)
 
--- no byte of a class stands where a word may end
+-- no byte of a class is where a word may end
 edge_none : (p : ℕ → Bool) → ((c : ℕ) → p c ≡ true → is_bare c ≡ true) → (r : List ℕ) → words.ends_joined r ≡ true → is_first p r ≡ false
 unfolding is_first
 edge_none p weaker [] h = refl
@@ -273,7 +273,7 @@ module _ (v r : List ℕ) (byte : Byte v r) (ends : words.ends_joined r ≡ true
   last_word false false true x y z w h k l is = absurd (true≢false (sym (ap is_word is) ∙ l))
   last_word false false false x y z w h k l is = (refl, is)
 
-  -- no definition stands there
+  -- no definition is there
   no_definition : (r' : List ℕ) → IsBehindWord r' → (w : List ℕ) → (w ≡ v) ⊎ (w ≡ []) → is_definition (v ++ r') 0 w ≡ false
   unfolding is_definition blanks is_first
   no_definition r' h w (inr none) = ap (λ t. is_name t && is_first is_parenthesis (drop (blanks false (v ++ r') (0 + length t)) (v ++ r'))) none

@@ -164,7 +164,7 @@ edge c (d ∷ ds) h = by_bool (is_backslash c && is_newline d)
     let k : words.ends_joined (c ∷ d ∷ ds) ≡ (ends_token c || false) = rw (none, zero_not (suc (length ds))) refl in
     Edge.token (grind (arith, nat_tests, sym k ∙ h)))
 
--- what stands for itself in a word
+-- what is literal in a word
 pub word_stands : (x : Context) (prior i c : ℕ) (cs : List ℕ) → x.site ≡ site.Word
     → words.stands x prior i c cs ≡ (not (ends_token c) && not (words.is_stripped x prior c) && not (words.is_tilde x prior i c cs) && (not (words.is_special site.Word c) || words.is_literal site.Word c cs))
 unfolding words.stands
@@ -268,7 +268,7 @@ name_run (c ∷ t) rest h e =
 
 -- Declaring
 
--- two texts, of which both or neither are a third one
+-- two texts, both or neither of which are a third one
 bytes_same : (t v w : List ℕ) → (v ≡ t → w ≡ t) → (w ≡ t → v ≡ t) → bytes_eq t v ≡ bytes_eq t w
 bytes_same t v w f g = by_bool (bytes_eq t v)
     (λ yes. yes ∙ sym (is w (f (sym ((bytes_eq-Decides t v).0 yes)))))

@@ -1,4 +1,4 @@
--- What stands some bytes after the front of a text, before a byte that closes something.
+-- What is some bytes after the front of a text, before a byte that closes something.
 use Rattle.std.proofs.Common.{◌≡◌, ℕ, zero, suc, ◌+◌, ◌≤◌, Bool, true, false, List, [], ◌∷◌, ◌++◌, length, drop, take, refl, sym, ap, ◌∙◌, arith, append_assoc, length-drop}
 use Rattle.std.proofs.lemmas.Bool.{true≢false}
 use Rattle.std.proofs.lemmas.List.{drop-append-le, take-append-le}
@@ -24,7 +24,7 @@ run_behind p n w c r r' h k l =
     let within = m.1 in
     (ap (run p) here ∙ m.0 ∙ sym size, omega arith)
 
--- if a class that holds no closer begins a text, a byte stands before the closer
+-- if a class that holds no closer begins a text, a byte precedes the closer
 pub first_before : (p : ℕ → Bool) (n : ℕ) (w : List ℕ) (c : ℕ) (r : List ℕ) → p c ≡ false → n ≤ length w → is_first p (drop n (w ++ c ∷ r)) ≡ true → n + 1 ≤ length w
 unfolding is_first
 first_before p n [] c r k l h = absurd (true≢false (sym h ∙ go n (omega arith)))

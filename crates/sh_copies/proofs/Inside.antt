@@ -234,7 +234,7 @@ part_is_read (r.removal d i) = refl
 part_is_read (r.arithmetic d i h c) = refl
 part_is_read (r.substitution d k i c) = refl
 
--- a byte stands before the end
+-- a byte is before the end
 byte_inside : (p : ℕ → Bool) (b : List ℕ) (i : ℕ) → is_first p (drop i b) ≡ true → i + 1 ≤ length b
 byte_inside p b i h = let some = first_some p (drop i b) h in let less = length-drop i b in omega arith
 

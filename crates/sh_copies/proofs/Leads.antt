@@ -23,7 +23,7 @@ use Rattle.sh_copies.proofs.Blanks.{gap_moves, parenthesis_behind, is_number_sig
 use Rattle.sh_copies.proofs.Fronts.{alike_behind, whole, first_same, joined_at_is}
 use Rattle.sh_copies.proofs.Tables.{Within, longest_moves, longest_within}
 
--- Wherever it stands
+-- Wherever it is
 
 definition_front : (b : List ℕ) (i : ℕ) (w : List ℕ) → is_definition b i w ≡ is_definition (drop i b) 0 w
 unfolding is_definition blanks

@@ -1,5 +1,5 @@
--- A token of arithmetic before a byte that closes its context is the same wherever it stands,
--- whatever follows that byte.
+-- A token of arithmetic before a byte that closes its context is the same wherever it is, whatever
+-- follows that byte.
 -- POSIX.1-2024, XCU 2.6.4 (arithmetic expansion).
 use Rattle.std.proofs.Common.{◌≡◌, ℕ, zero, suc, ◌+◌, ◌≤◌, ◌==◌, Bool, true, false, ◌&&◌, ◌||◌, List, [], ◌∷◌, ◌++◌, length, drop, codes, nat_eq, nat_lt, if◌then◌else◌, inl, inr, refl, sym, ap, ◌∙◌, subst, arith, eqb-true, ⊎_elim}
 use Rattle.std.specs.Prelude.{Option, Some, None}
@@ -172,7 +172,7 @@ split_moves zero [] c r r' h (inl l) = split_inside zero [] c r r' h (omega arit
 split_moves (suc zero) [] c r r' h (inl l) = closer_alone c r' h ∙ sym (closer_alone c r h)
 split_moves (suc (suc n)) [] c r r' h (inl l) = absurd (omega arith)
 
--- Wherever they stand
+-- Wherever they are
 
 -- the same token, as far from i as from j
 pub record SameLexeme (i j : ℕ) (l l' : Lexeme) : Type 0 where

@@ -1,4 +1,4 @@
--- The line that ends a here-document is found again wherever the lines before it stand.
+-- The line that ends a here-document is found again wherever the lines before it are.
 -- POSIX.1-2024, XCU 2.7.4 (here-document), 2.2.1 (line continuation).
 use Rattle.std.proofs.Common.{◌≡◌, ℕ, zero, suc, ◌+◌, ◌-◌, ◌≤◌, ◌<◌, Bool, true, false, not, ◌&&◌, List, [], ◌∷◌, ◌++◌, length, drop, take, nat_lt, if◌then◌else◌, refl, sym, ap, ◌∙◌, subst, arith, length-drop, length-append, ⊎_elim}
 use Rattle.std.specs.Prelude.{Some, None}
@@ -111,7 +111,7 @@ module _ (m : Mark) where
           go true = omega arith
           go false = omega arith
 
-  -- texts that stand there are inside
+  -- texts that are there are inside
   text_inside : (b : List ℕ) (j : ℕ) (cs : List ℕ) (n : ℕ) → drop j b ≡ cs → n < length cs → j + n < length b
   text_inside b j cs n e h =
       let long : length (drop j b) ≡ length cs = ap length e in

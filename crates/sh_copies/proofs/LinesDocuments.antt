@@ -1,4 +1,4 @@
--- A here-document and the line that ends it are read wherever their bytes stand before a newline.
+-- A here-document and the line that ends it are read wherever their bytes are before a newline.
 -- POSIX.1-2024, XCU 2.7.4 (here-document), 2.2.1 (line continuation).
 use Rattle.std.proofs.Common.{◌≡◌, ℕ, suc, ◌+◌, ◌-◌, ◌<◌, ◌≤◌, Bool, true, false, not, ◌&&◌, ◌||◌, if◌then◌else◌, List, [], ◌∷◌, ◌++◌, length, drop, take, Some, refl, sym, ap, ◌∙◌, arith, eqb-true, length-drop, length-append}
 use Rattle.std.specs.List.{list_any}
@@ -117,7 +117,7 @@ end_hangs_not m e mark is joins = by_bool (hangs e)
 
 -- Documents
 
--- where the end line and the text before it stand
+-- where the end line and the text before it are
 record Cut (m : Mark) (b : List ℕ) (i : ℕ) (l : Span) : Type 0 where
   text_long : l.start ≡ i + length (text_of b (span i l.start))
   end_long : l.end ≡ l.start + length (text_of b l)

@@ -1,4 +1,4 @@
--- What begins at one place of a text begins there too if the text stands elsewhere, except for the
+-- What begins at one place of a text begins there too if the text is elsewhere, except for the
 -- places of a parameter.
 -- POSIX.1-2024, XCU 2.2 (quoting), 2.6 (word expansions).
 use Rattle.std.proofs.Common.{◌≡◌, ℕ, ◌+◌, ◌==◌, Bool, true, false, not, ◌&&◌, if◌then◌else◌, List, [], ◌∷◌, length, drop, Option, Some, None, take, nat_le, refl, sym, ap, ◌∙◌, arith}

@@ -1,4 +1,4 @@
--- The commands of a substitution are read wherever its bytes stand.
+-- The commands of a substitution are read wherever its bytes are.
 -- POSIX.1-2024, XCU 2.6.3 (command substitution).
 use Rattle.std.proofs.Common.{◌≡◌, ℕ, zero, suc, ◌+◌, ◌-◌, ◌≤◌, ◌<◌, ◌==◌, Bool, true, false, not, List, [], ◌∷◌, ◌++◌, length, drop, take, inl, inr, refl, sym, ap, ◌∙◌, arith, length-drop, length-take, length-append}
 use Rattle.std.proofs.lemmas.Bool.{true≢false}
@@ -81,7 +81,7 @@ record Between (b b' : List ℕ) (e e' u : ℕ) : Type 0 where
 
 module _ (b b' : List ℕ) (e e' : ℕ) (w rest rest' : List ℕ) (there : drop e b ≡ w ++ rest) (here : drop e' b' ≡ w ++ rest') (u : ℕ) (f : e ≤ u) (within : u + 1 ≤ e + length w)
     (h : is_last_backquote (drop u (take (backquote_end b e) b)) ≡ true) where
-  -- so many bytes stand before the closing one
+  -- so many bytes are before the closing one
   width : ℕ
   width = run no_backquote (drop e b)
 

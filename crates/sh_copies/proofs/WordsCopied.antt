@@ -1,4 +1,4 @@
--- A whole word of the text is one wherever its bytes stand before what may follow a word.
+-- A whole word of the text is one wherever its bytes are before what may follow a word.
 -- POSIX.1-2024, XCU 2.2 (quoting), 2.3 (token recognition), 2.6 (word expansions).
 use Rattle.std.proofs.Common.{◌≡◌, ℕ, ◌+◌, ◌-◌, ◌≤◌, ◌==◌, Bool, true, false, not, ◌&&◌, nat_le, List, [], ◌∷◌, ◌++◌, length, drop, take, ◌⊎◌, inl, inr, refl, sym, ap, subst, ◌∙◌, ⊎_elim, arith, length-drop, length-take, take-append-drop}
 use Rattle.std.proofs.Math.Bool.{and-false}

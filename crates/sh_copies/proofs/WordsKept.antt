@@ -1,4 +1,4 @@
--- What a word keeps if its bytes stand elsewhere: its text, whether it is quoted, and the texts of
+-- What a word keeps if its bytes are elsewhere: its text, whether it is quoted, and the texts of
 -- its single quotes.
 -- POSIX.1-2024, XCU 2.2 (quoting), 2.7.4 (here-documents).
 use Rattle.std.proofs.Common.{◌≡◌, ℕ, Bool, List, [], ◌∷◌, Some, refl, sym, ap, ◌∙◌}

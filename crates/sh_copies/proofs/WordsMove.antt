@@ -1,4 +1,4 @@
--- The parts of a word are read wherever its bytes stand.
+-- The parts of a word are read wherever its bytes are.
 -- POSIX.1-2024, XCU 2.2 (quoting), 2.6 (word expansions).
 use Rattle.std.proofs.Common.{◌≡◌, ℕ, suc, ◌+◌, ◌-◌, ◌≤◌, ◌<◌, ◌==◌, Bool, true, false, if◌then◌else◌, List, [], ◌∷◌, drop, refl, sym, ap, subst, ◌∙◌, arith}
 use Rattle.std.proofs.lemmas.Bool.{true≢false, eqb-true, eqb-false, eq-eqb}

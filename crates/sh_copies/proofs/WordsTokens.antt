@@ -82,7 +82,7 @@ remove_sign p q g e = cc
 
 -- Ends
 
--- it ends no context but a word, before which it stands, and is no tabs
+-- it ends no context but a word, before which it is, and is no tabs
 record Ends (x : Context) (f : Sign × ℕ) : Type 0 where
   stop : is_stop f.0 ≡ true → (words.is_word_site x.site ≡ true) × (f.1 ≡ 0)
   tabs : is_tabs f.0 ≡ false
@@ -177,7 +177,7 @@ module _ (b : List ℕ) (x : Context) (prior : ℕ) (s : Spot) where
   unfolding words.token
   stop_closes h = ((sign_says x prior s.at (drop s.at b)).stop (ap is_stop h)).1
 
-  -- tabs stand only where they are stripped
+  -- tabs are only where they are stripped
   pub tabs_strip : sign_at b x prior s ≡ sign.Tabs → x.strip ≡ true
   unfolding words.token
   tabs_strip h = (sign_says x prior s.at (drop s.at b)).tabs (ap is_tabs h)

@@ -1,4 +1,4 @@
--- A whole word of the text is one wherever its bytes stand before what may follow a word.
+-- A whole word of the text is one wherever its bytes are before what may follow a word.
 -- POSIX.1-2024, XCU 2.2 (quoting), 2.3 (token recognition), 2.6 (word expansions).
 use Rattle.std.proofs.Common.{◌≡◌, ℕ, suc, ◌+◌, ◌≤◌, ◌==◌, Bool, true, false, ◌||◌, if◌then◌else◌, List, [], ◌∷◌, length, drop, ◌⊎◌, inl, inr, refl, sym, ap, ◌∙◌, arith}
 use Rattle.std.proofs.lemmas.Bool.{true≢false, cond-true, cond-false, eqb-true}
@@ -93,7 +93,7 @@ module _ (o : ℕ) (colons fields backquotes : Bool) where
       go true = refl
       go false = refl
 
-  -- what may end a word stands where it ends
+  -- what may end a word is where it ends
   stop_edge : (prior i : ℕ) (cs : List ℕ) → is_stop (words.sign_of x prior i cs).0 ≡ true → words.ends_joined cs ≡ true
   unfolding words.sign_of words.sign_by words.meant_by is_first
   stop_edge prior i [] h = nothing_ends

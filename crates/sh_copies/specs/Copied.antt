@@ -1,4 +1,4 @@
--- What is read alike wherever its bytes stand: a whole word, and a here-document with its end line.
+-- What is read alike wherever its bytes are: a whole word, and a here-document with its end line.
 -- POSIX.1-2024, XCU 2.2 (quoting), 2.3 (token recognition), 2.6 (word expansions), 2.7.4
 -- (here-documents).
 use Rattle.std.specs.Prelude.{◌≡◌, ℕ, ◌+◌, ◌==◌, Bool, true, false, not, ◌&&◌, ◌||◌, List, ◌∷◌, ◌++◌, length, take, drop, codes, Option, Some}
@@ -83,8 +83,8 @@ begins_word c = not (ends_token c) && not (c == byte.number_sign)
 abbrev pub is_declaring : List ℕ → Bool
 is_declaring t = bytes_eq (codes "export") t || bytes_eq (codes "readonly") t
 
--- After any bytes and before what may follow a word, the text begins as a word does at this
--- stage, and its first byte is at a token.
+-- After any bytes, and before what may follow a word, the text begins as a word does at this stage.
+-- Its first byte is at a token.
 pub record TokenOf (stage : Stage) (text : List ℕ) : Type 0 where
   pub first : is_first begins_word text ≡ true
   pub at_token : (rest : List ℕ) → IsBehindWord rest → blank_length false (text ++ rest) ≡ 0

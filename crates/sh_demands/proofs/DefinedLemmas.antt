@@ -1,4 +1,5 @@
--- The functions of a call table are those that the demands ask of: the names that the commands of the script define.
+-- The functions of a call table are those that the demands speak of: the names that the commands of
+-- the script define.
 use Rattle.std.proofs.Common.{◌≡◌, ℕ, Bool, true, false, not, ◌&&◌, ◌||◌, cond, if◌then◌else◌, List, [], ◌∷◌, ◌++◌, map, fold, Option, Some, None, refl, sym, ap, ap₂, ◌∙◌, nat_lt}
 use Rattle.std.specs.List.{cons_option, filter_map, list_all}
 use Rattle.std.specs.Str.{bytes_eq}
@@ -33,7 +34,7 @@ named f t (x ∷ xs) = go (named f t xs) (f x)
     go h None = h
     go h (Some u) = ap (λ b. bytes_eq u t || b) h ∙ either (bytes_eq u t) (list_all (λ y. not (is_it t (f y))) xs)
 
--- the order of the commands does not tell
+-- the order of the commands does not matter
 
 turned : (a b c : Bool) → (a && (b && c)) ≡ (b && (a && c))
 turned true b c = refl
@@ -64,7 +65,7 @@ with_none : (a : Bool) → (a || false) ≡ a
 with_none true = refl
 with_none false = refl
 
--- a name that is there stands for one more
+-- a name that is there may be added once more
 again : (names : List Text) (u t : Text) → is_one_of names u ≡ true → is_one_of names t ≡ (is_one_of names t || bytes_eq u t)
 again names u t h = go (bytes_eq u t) refl
   where

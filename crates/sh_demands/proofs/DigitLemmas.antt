@@ -37,7 +37,7 @@ pub more_digits : (n : ℕ) → 10 ≤ n → digits n ≡ digits (n / 10) ++ (48
 more_digits zero h = absurd (omega arith)
 more_digits (suc m) h = one_more m (suc m) h ∙ ap (λ t. t ++ (48 + suc m % 10) ∷ []) (enough m (suc m / 10) (suc m / 10) (omega arith) (omega arith))
 
--- what is behind a text when the last digit has come
+-- what is after a text when the last digit has come
 pub last_written : (n : ℕ) (a t : Text) → n < 10 → t ≡ a → t ++ (48 + n % 10) ∷ [] ≡ a ++ digits n
 last_written n a t h e = ap (λ (x : Text). x ++ (48 + n % 10) ∷ []) e ∙ ap (λ (x : Text). a ++ x) (sym (last_digit n h))
 

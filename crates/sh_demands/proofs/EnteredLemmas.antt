@@ -1,4 +1,4 @@
--- What is told of each command where it stands is told of each as it is entered.
+-- What is reported of each command where it is, is reported of each as it is entered.
 use Rattle.std.proofs.Common.{◌≡◌, ℕ, Bool, true, false, List, [], ◌∷◌, ◌++◌, fold, refl, sym, ◌∙◌, ap}
 use Rattle.std.proofs.lemmas.List.Sums.{fold-append}
 use Rattle.sh_tree.specs.declared.place.Place.{Place}
@@ -22,7 +22,7 @@ unfolding part_around
 part_shared true x = refl
 part_shared false x = refl
 
--- one list behind another
+-- one list after another
 then : (f : Teller) (ps mid new : List Place) (xs ys : List Entered) → mid ≡ fold (entered_told f) ps xs → new ≡ fold (entered_told f) mid ys → new ≡ fold (entered_told f) ps (xs ++ ys)
 then f ps mid new xs ys m n = n ∙ ap (λ qs. fold (entered_told f) qs ys) m ∙ sym (fold-append (entered_told f) ps xs ys)
 

@@ -1,4 +1,4 @@
--- What is known behind a piece of a tree, by the pieces one level below it.
+-- What is known after a piece of a tree, by the pieces one level below it.
 use Rattle.std.proofs.Common.{◌≡◌, ℕ, Bool, true, false, Option, List, [], ◌∷◌, fold, refl, ap, ◌∙◌}
 use Rattle.sh_tree.specs.declared.tree.Action.{Action}
 use Rattle.sh_tree.specs.declared.tree.Action.TheVariants as action

@@ -34,7 +34,7 @@ use Rattle.sh_demands.specs.Judged.{Judged, judged, inner_gains, part_judged, wo
 use Rattle.sh_demands.specs.Walks.{name_noted, subject_noted, tilde_needed, tilde_noted, reads_noted, expression_assigned, subject_gained, action_gained, inner_gained, part_step, operator_step, use_step, expression_step, operand_step}
 use Rattle.sh_demands.proofs.KnowingLemmas.{gained_none}
 
--- behind operators
+-- after operators
 
 pub inner_gained-Default : (b : List ℕ) (k : Knowing) (s : Subject) → inner_gained b k s action.Default ≡ k
 unfolding inner_gained inner_gains

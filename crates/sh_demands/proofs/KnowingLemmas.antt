@@ -46,7 +46,7 @@ pub gained_none : (k : Knowing) → gained no_gains k ≡ k
 unfolding gained
 gained_none k = knowing_same k.names (with_gains (among k.names no_gains) k.facts) k.facts (with_none k.names k.facts)
 
--- one gain behind another
+-- one gain after another
 pub gained_both : (g h : Gains) (k : Knowing) → gained (and_gains g h) k ≡ gained h (gained g k)
 unfolding gained
 gained_both g h k = knowing_same k.names _ _ (with_both k.names g h k.facts)

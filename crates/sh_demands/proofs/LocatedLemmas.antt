@@ -1,4 +1,4 @@
--- The commands of a program are entered as they stand, in whatever order.
+-- The commands of a program are entered as they are, in whatever order.
 use Rattle.std.proofs.Common.{◌≡◌, ℕ, Bool, true, false, ◌&&◌, List, [], ◌∷◌, ◌++◌, refl, sym, ◌∙◌, ap, ap₂}
 use Rattle.std.specs.List.{list_all}
 use Rattle.std.proofs.lemmas.List.Folds.{list_all-append}
@@ -29,7 +29,7 @@ module _ (test : p.Command → Bool) where
   both : (ls ms : List Located) (xs ys : List Entered) → Same ls xs → Same ms ys → Same (ls ++ ms) (xs ++ ys)
   both ls ms xs ys h k = list_all-append of_located ls ms ∙ ap₂ (λ a b. a && b) h k ∙ sym (list_all-append of_entered xs ys)
 
-  -- where the second stands first
+  -- if the second is first
   turned : (ls ms : List Located) (xs ys : List Entered) → Same ls xs → Same ms ys → Same (ms ++ ls) (xs ++ ys)
   turned ls ms xs ys h k =
       list_all-append of_located ms ls

@@ -70,7 +70,7 @@ utility_lost start c n v f a functions names same e kind.Getopts ws =
     ap (λ (l : Names). (l.vars ++ l.functions) ++ []) (lost_names start c n v f a (record { vars = codes "OPTARG" ∷ []; functions = [] }) e)
 utility_lost start c n v f a functions names same e k ws = refl
 
--- what is not known behind the words
+-- what is not known after the words
 prefixes_lost : (start : Facts) (c : Certificate) (n : ℕ) (es : p.Elements)
     → names_lost start c n (map (OfUnseen (prefixes es)) (behind_words es (at (Before n)))) ≡ unseen (with_gains (words_gains (operands_in es)) (facts (c.claim (Before n)))) es
 unfolding lost steps step source_facts unseen

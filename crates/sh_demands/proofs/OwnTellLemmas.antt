@@ -1,4 +1,5 @@
--- What is judged of a command's own words is what the demands say, where each name that they may set is numbered.
+-- What is judged of a command's own words is what the demands say, if each name that they may set
+-- is numbered.
 use Rattle.std.proofs.Common.{◌≡◌, Bool, true, List, ◌++◌, append_assoc, append-nil, refl, sym, ap, ◌∙◌}
 use Rattle.std.specs.List.{list_all}
 use Rattle.std.proofs.lemmas.Bool.{and_parts}
@@ -83,7 +84,7 @@ redirects_told (p.more_redirects r rs) k ps h =
     ∙ redirects_told rs (gained (redirect_gains r) k) (ps ++ redirect_unmet k.facts r) both.1
     ∙ in_turn (redirect_gains r) (redirects_gains rs) k ps (redirect_unmet k.facts r) (λ f. redirects_unmet f rs) (redirect_pass (is_one_of k.names) r both.0)
 
--- simple commands: values and redirections by what is known behind the words
+-- simple commands: values and redirections by what is known after the words
 
 told_beside : (g : Facts) (k : Knowing) (es : p.Elements) (ps one : List Place) (x : Judged) → x ≡ judged k (ps ++ one)
     → ((qs : List Place) → elements_judged (known_as k g) (judged k qs) es ≡ judged (gained (words_gains (operands_in es)) k) (qs ++ elements_unmet k.facts g es))

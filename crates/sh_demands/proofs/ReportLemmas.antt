@@ -91,7 +91,7 @@ once_added false c kept new start k at ps t e f h =
     go true r = r
     go false r = (r, h.1)
 
--- places behind those that were reported
+-- places after those that were reported
 pub since_added : (b c : Bool) (kept new xs : List Place) (step : List Place → List Place) → ((ps : List Place) → step ps ≡ ps ++ xs)
     → ((ps : List Place) → AreKept b kept ps → AreKept c new (step ps)) → (start k : ℕ) (ps : List Place) → AreKeptSince b kept start k ps → AreKeptSince c new start k (step ps)
 unfolding AreKept AreKeptSince

@@ -1,4 +1,5 @@
--- The names of two rows, each once: those of the first, and those of the second that are not in the first.
+-- The names of two rows, each once: those of the first, and those of the second that are not in the
+-- first.
 use Rattle.std.proofs.Common.{◌≡◌, ℕ, zero, suc, ◌+◌, ◌<◌, Bool, true, false, not, ◌&&◌, ◌||◌, cond, if◌then◌else◌, List, [], ◌∷◌, ◌++◌, append_assoc, append-nil, filter, fold, get_or, length, map, slice_get, Some, refl, sym, subst, ap, ap₂, ◌∙◌, arith, true≢false}
 use Rattle.std.specs.Cmp.{IsStrictWeakOrder}
 use Rattle.std.specs.List.{All, list_all}
@@ -64,7 +65,7 @@ distinct_row f (x ∷ xs) r =
     go true h d = rw h d
     go false h d = d
 
--- Distinct names behind others, each once
+-- Distinct names after others, each once
 
 abbrev but : List Text → List Text → List Text
 but names ts = filter (λ t. not (is_one_of names t)) ts

@@ -128,7 +128,7 @@ module _ (b : List ℕ) (q : Text → Bool) (is_job : q job ≡ true) where
       and_from _ _ (words_seen (out-Clause c).patterns (front q (in_clause b c) (flat_map (in_clause b) cs) h))
       (clauses_seen cs (rest_of q (in_clause b c) (flat_map (in_clause b) cs) h))
 
-  -- behind the name that an assignment sets
+  -- after the name that an assignment sets
   elements_seen : {m : _} (row : Row_of-Element m) → Seen q (flat_map (in_element b) (items-the_row-Element _ row)) → elements_within q (trees.elements_of b row) ≡ true
   unfolding in_element trees.part_of elements_within
   elements_seen end_of-Element h = refl

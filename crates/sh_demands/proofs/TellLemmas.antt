@@ -108,15 +108,15 @@ facts_whole g k h = ap (λ (x : Knowing). x.facts) (gained_whole g k h)
 
 -- What is judged
 
--- nothing is gained and nothing told
+-- nothing is gained and nothing reported
 pub still : (k : Knowing) (ps : List Place) → judged k ps ≡ judged (gained no_gains k) (ps ++ [])
 still k ps = ap₂ judged (sym (gained_none k)) (sym (append-nil ps))
 
--- this is told and nothing gained
+-- this is reported and nothing gained
 noted_here : (k : Knowing) (ps qs : List Place) → judged k (ps ++ qs) ≡ judged (gained no_gains k) (ps ++ qs)
 noted_here k ps qs = ap (λ x. judged x (ps ++ qs)) (sym (gained_none k))
 
--- one piece behind another
+-- one piece after another
 pub in_turn : (g h : Gains) (k : Knowing) (ps : List Place) (one : List Place) (two : Facts → List Place) → list_all (is_one_of k.names) g.names ≡ true
     → judged (gained h (gained g k)) ((ps ++ one) ++ two (gained g k).facts)
     ≡ judged (gained (and_gains g h) k) (ps ++ (one ++ two (with_gains g k.facts)))

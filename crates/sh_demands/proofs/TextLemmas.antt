@@ -1,4 +1,5 @@
--- The static texts that a call table keeps of a command are those of its words, wherever it is entered.
+-- The static texts that a call table keeps of a command are those of its words, wherever it is
+-- entered.
 use Rattle.std.proofs.Common.{◌≡◌, ℕ, Bool, true, false, ◌&&◌, List, [], ◌∷◌, map, Some, None, refl, sym, ap, ap₂, ◌∙◌, true≢false}
 use Rattle.std.specs.List.{list_all}
 use Rattle.std.specs.Str.{bytes_eq}

@@ -1,4 +1,4 @@
--- What is told of a piece of a tree, by the pieces one level below it.
+-- What is reported of a piece of a tree, by the pieces one level below it.
 use Rattle.std.proofs.Common.{◌≡◌, ℕ, nat_lt, Bool, true, false, Option, Some, None, List, [], ◌∷◌, fold, length, refl, sym, ap, ◌∙◌, arith}
 use Rattle.std.proofs.lemmas.Bool.Decides.{nat_tests}
 use Rattle.sh_tree.specs.declared.place.Place.{Place}

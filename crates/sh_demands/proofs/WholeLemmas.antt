@@ -1,4 +1,4 @@
--- What the walk tells of a whole script are its demands.
+-- What the walk reports of a whole script are its demands.
 use Rattle.std.proofs.Common.{◌≡◌, ℕ, suc, ◌-◌, Bool, true, false, ◌&&◌, if◌then◌else◌, List, [], ◌∷◌, ◌++◌, append_assoc, append-nil, flat_map, fold, map, Option, Some, None, slice_get, unwrap_or, option_map, option_and_then, refl, sym, ap, ap₂, ◌∙◌, arith}
 use Rattle.std.specs.List.{list_all, position_from}
 use Rattle.std.specs.Str.{bytes_eq}

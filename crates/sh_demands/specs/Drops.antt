@@ -46,7 +46,7 @@ utility_drops functions (kind.Special known.Unset) ts = unset_drops functions (l
 utility_drops functions kind.Getopts ts = optarg
 utility_drops functions _ ts = []
 
--- the built-in utility `getopts` runs where no function of the name is defined
+-- the built-in utility `getopts` runs if no function of the name is defined
 unfoldable pub builtin_drops : Text → List Text
 builtin_drops t = if bytes_eq t (codes "getopts") then optarg else []
 

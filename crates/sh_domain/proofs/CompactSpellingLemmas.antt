@@ -1,4 +1,5 @@
--- A text that reads as a compact certificate is that certificate's text, and its text reads as that certificate.
+-- A text that reads as a compact certificate is that certificate's text, and its text reads as that
+-- certificate.
 use Rattle.std.proofs.Common.{◌≡◌, ℕ, zero, suc, ◌+◌, ◌≤◌, ◌==◌, nat_le, true, false, ◌&&◌, List, [], ◌∷◌, ◌++◌, length, append_assoc, append-nil, Option, Some, None, Ok, refl, sym, ap, ap₂, ◌∙◌, subst, arith, codes}
 use Rattle.std.specs.Fmt.{decimal}
 use Rattle.std.specs.List.{list_all}

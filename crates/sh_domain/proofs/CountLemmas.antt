@@ -1,4 +1,4 @@
--- How often a place stands in a list, and that it stands once.
+-- How often a place occurs in a list, and that it occurs once.
 use Rattle.std.proofs.Common.{◌≡◌, ℕ, zero, suc, ◌+◌, ◌<◌, ◌≤◌, ◌==◌, Bool, true, false, ◌&&◌, if◌then◌else◌, List, [], ◌∷◌, ◌++◌, map, length, get_or, ◌⊎◌, inl, inr, refl, sym, ◌∙◌, ap, subst, arith, eqb-true, eq-eqb, true≢false}
 use Rattle.std.specs.List.{Contains, flat_map, fold}
 use Rattle.std.specs.Str.{bytes_eq}
@@ -49,7 +49,7 @@ place_itself : (q : Place) → same_place q q ≡ true
 unfolding same_place
 place_itself q = and_from _ _ (and_from _ _ (eq-eqb q.at q.at refl) (eq-eqb (code_number q.code) (code_number q.code) refl)) (text_same q.subject)
 
--- how often the place stands in the list
+-- how often the place occurs in the list
 pub times : Place → List Place → ℕ
 times q [] = 0
 times q (x ∷ xs) = one (same_place q x) + times q xs
@@ -72,14 +72,14 @@ times_one q xs h = go xs (h.0) (h.1) (h.2)
     go (x ∷ xs) zero l e = let here : one (same_place q x) ≡ 1 = ap one (ap (same_place q) e ∙ place_itself q) in omega arith
     go (x ∷ xs) (suc k) l e = let there = go xs k (omega arith) e in omega arith
 
--- where each place that is counted is before an offset, so is each that stands there
+-- if each place that is counted is before an offset, so is each that is there
 pub places_inside : (long : ℕ) (xs : List Place) → ((q : Place) → 0 < times q xs → q.at < long) → (k : ℕ) (d : Place) → k < length xs → (get_or xs k d).at < long
 unfolding times
 places_inside long [] h k d l = absurd (omega arith)
 places_inside long (x ∷ xs) h zero d l = let here : one (same_place x x) ≡ 1 = ap one (place_itself x) in h x (omega arith)
 places_inside long (x ∷ xs) h (suc k) d l = places_inside long xs (λ q some. h q (omega arith)) k d (omega arith)
 
--- where no place stands twice by count, each stands once
+-- if no place occurs twice by count, each occurs once
 pub places_once : (xs : List Place) → ((q : Place) → times q xs ≤ 1) → EachOnce xs
 unfolding EachOnce times
 places_once [] h = tt
@@ -179,7 +179,7 @@ unfolding times same_place text_times
 drop_times q at [] = omega arith
 drop_times q at (n ∷ names) = let rest = drop_times q at names in let first = one_both ((q.at == at) && (code_number q.code == code_number P1)) (bytes_eq q.subject n) in omega arith
 
--- a place that stands among those of drops, or of a move, is there
+-- a place that is among those of drops, or of a move, is there
 not_there : (q : Place) (at : ℕ) (code : Code) (subject : Text) → ((q.at == at) && (code_number q.code == code_number code)) ≡ false → same_place q (record { at = at; code = code; subject = subject }) ≡ false
 unfolding same_place
 not_there q at code subject e = rw e refl

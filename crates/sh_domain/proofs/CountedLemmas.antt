@@ -1,7 +1,9 @@
--- The commands of a script that is read have the numbers from 1 to their count, each once: a case for each production.
+-- The commands of a script that is read have the numbers from 1 to their count, each once: a case
+-- for each production.
 --
--- Numbers do not rise along a tree, since the bodies of here-documents come behind their operators; so what commands weigh by their numbers is summed, and
--- what passes the sum is the weight of all numbers that were given.
+-- Numbers do not rise along a tree, since the bodies of here-documents come after their operators;
+-- so what commands weigh by their numbers is summed, and what passes the sum is the weight of all
+-- numbers that were given.
 use Rattle.std.proofs.Common.{◌≡◌, ℕ, zero, suc, ◌+◌, ◌-◌, ◌==◌, cond, nat_le, Bool, true, false, if◌then◌else◌, Option, List, [], ◌∷◌, ◌++◌, flat_map, refl, ap, ◌∙◌, subst, length, arith, length-append, true≢false}
 use Rattle.std.specs.List.{sum_by}
 use Rattle.std.specs.Option.{option_map_or}
@@ -190,7 +192,8 @@ module _ (w : ℕ → ℕ) where
 
   -- what the numbers from 1 to a count weigh together
   module _ (given : ℕ → ℕ) (next : (i : ℕ) → w (i + 1) + given i ≡ given (i + 1)) where
-    -- what is read where the count goes from i to j weighs h; the bodies that come meanwhile ku - ks, and those of the operators cu - cs
+    -- what is read where the count goes from i to j weighs h; the bodies that come meanwhile ku -
+    -- ks, and those of the operators cu - cs
     record Gives (i j h ks cs ku cu : ℕ) : Type 0 where
       exact : h + ku + cs + given i ≡ ks + cu + given j
 
@@ -493,7 +496,7 @@ module _ (w : ℕ → ℕ) where
         let exact = found.exact in
         subst (λ k. weight (commands_of t) + given 0 ≡ given k) h.commands (omega arith)
 
--- each number from 1 to their count stands once among them, and no other
+-- each number from 1 to their count occurs once among them, and no other
 pub tree_given : (b : List ℕ) (t : Script) (limit count : ℕ) → ReadsTo b limit count t → (n : ℕ)
     → sum_by (λ c. cond ((out-Command c).number == n) 1 0) (commands_of t) + cond (nat_le n 0) 1 0 ≡ cond (nat_le n count) 1 0
 tree_given b t limit count h n = all_weigh (λ m. cond (m == n) 1 0) (λ k. cond (nat_le n k) 1 0) (next_given n) b t limit count h

@@ -1,4 +1,4 @@
--- Where each number stands once, the test that numbers differ holds.
+-- If each number occurs once, the test that numbers differ holds.
 use Rattle.std.proofs.Common.{◌≡◌, ℕ, suc, ◌==◌, Bool, true, false, not, List, [], ◌∷◌, map, refl, arith}
 use Rattle.std.specs.List.{Contains, list_all}
 use Rattle.std.proofs.lemmas.Bool.{and_from, eqb-true}

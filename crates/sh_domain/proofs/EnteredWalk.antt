@@ -1,4 +1,4 @@
--- What holds of each command where it stands holds of each as it is entered.
+-- What holds of each command where it is, holds of each as it is entered.
 use Rattle.std.proofs.Common.{◌≡◌, ℕ, suc, ◌==◌, Bool, true, false, not, Option, Some, None, is_some, List, [], ◌∷◌, ◌++◌, length, refl, sym, ◌∙◌, ap, subst, arith, true≢false}
 use Rattle.std.specs.List.{list_all}
 use Rattle.std.proofs.lemmas.Bool.{and_parts, and_from}
@@ -17,7 +17,7 @@ use Rattle.sh_domain.specs.Views.{Seen, After, Both, Head, at, in_any_case, gain
 use Rattle.sh_domain.proofs.EachLemmas.{each_passes, each_weaker}
 use Rattle.sh_table.proofs.AdmittedLemmas.{is_free, mapped, items_listed}
 
--- What stands round a command, as the profile asks it
+-- What is round a command, as the profile has it
 
 abbrev surroundings : Bool → Bool → Surroundings
 surroundings loop function = record { loop = loop; function = function }
@@ -42,7 +42,7 @@ part_same x p.no_commands = refl
 part_same x (p.more_commands c p.no_commands) = refl
 part_same x (p.more_commands c (p.more_commands d cs)) = refl
 
--- The walk, of any test of a command and of what stands round it
+-- The walk, of any test of a command and of what is round it
 
 module _ (test : Surroundings → p.Command → Bool) where
   abbrev of_located : Located → Bool
@@ -65,7 +65,7 @@ module _ (test : Surroundings → p.Command → Bool) where
       let parts = and_parts (list_all of_located ls) (list_all of_located ms) (sym (list_all-append of_located ls ms) ∙ e) in
       joined xs ys (h parts.0) (k parts.1)
 
-  -- where the second stands first
+  -- if the second is first
   turned : (ls ms : List Located) (xs ys : List Entered) → (Holds ls → HoldsEntered xs) → (Holds ms → HoldsEntered ys) → Holds (ms ++ ls) → HoldsEntered (xs ++ ys)
   turned ls ms xs ys h k e =
       let parts = and_parts (list_all of_located ms) (list_all of_located ls) (sym (list_all-append of_located ms ls) ∙ e) in

@@ -33,7 +33,7 @@ use Rattle.sh_domain.proofs.SignLemmas.{token_formed, token_is_formed}
 abbrev IsField : p.Part → Type 0
 IsField x = (gives_field x ≡ true) ⊎ (part_text x ≡ None)
 
--- a word of which that holds, as the form of programs asks it
+-- a word for which that holds, as the form of programs requires it
 abbrev pub GivesField : p.Word → Type 0
 GivesField w = (not (is_some (word_text w)) || some_gives_field w) ≡ true
 

@@ -45,7 +45,7 @@ GoodExpression e = (expression_formed e ≡ true) × AllFormed (expression_locat
 abbrev pub GoodOperands : p.Operands → Type 0
 GoodOperands es = (operands_formed es ≡ true) × AllFormed (operands_located es)
 
--- Pieces of lists, whatever stands round them
+-- Pieces of lists, whatever is round them
 
 abbrev pub GoodItems : p.Items → Type 0
 GoodItems t = (x : Surroundings) → AllFormed (items_located x t)

@@ -1,4 +1,5 @@
--- Words of a program that is formed give fields; so it is of every script that is read, and its runs have rows.
+-- Words of a program that is formed give fields; so it is of every script that is read, and its
+-- runs have rows.
 use Rattle.std.proofs.Common.{◌≡◌, Bool, true, false, not, ◌&&◌, ◌||◌, if◌then◌else◌, None, is_some, List, [], ◌∷◌, refl}
 use Rattle.std.specs.List.{list_all}
 use Rattle.std.proofs.lemmas.Bool.{and_parts, and_from}

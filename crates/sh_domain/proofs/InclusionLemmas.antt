@@ -26,7 +26,7 @@ use Rattle.sh_domain.proofs.MonotoneLemmas.{told_none}
 
 -- Names that are dropped
 
--- a list in which each text stands once is empty where there are no texts
+-- a list in which each text occurs once is empty if there are no texts
 once_none : (names ts : List Text) → fold with_text names ts ≡ [] → (names ≡ []) × (ts ≡ [])
 unfolding with_text
 once_none names [] e = (e, refl)

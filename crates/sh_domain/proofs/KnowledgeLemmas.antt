@@ -33,7 +33,7 @@ same_tests false false h k = refl
 
 -- Numbers of names
 
--- a name that has a number stands there
+-- a name that has a number is there
 pub place_of : (names : List Text) (i k : ℕ) (t : Text) → position_from (λ n. bytes_eq n t) i names ≡ Some k → (j : ℕ) × (k ≡ i + j) × (slice_get names j ≡ Some t)
 place_of [] i k t e = cc
 place_of (n ∷ names) i k t e = elim (cases_Bool (bytes_eq n t)) [
@@ -58,7 +58,7 @@ stands_there names k t e =
 pub one_number : (names : List Text) (k : ℕ) (t u : Text) → number_of names t ≡ Some k → number_of names u ≡ Some k → t ≡ u
 one_number names k t u e f = let a = stands_there names k t e in let b = stands_there names k u f in cc
 
--- a name has a number where it is one of them
+-- a name has a number if it is one of them
 pub has_number : (names : List Text) (t : Text) → is_one_of names t ≡ is_some (number_of names t)
 has_number names t = sym (is_placed names t 0)
 
@@ -375,7 +375,7 @@ module _ (names : List Text) (h : AreNumbered names) where
           let same : prefixes k ≡ is_one_of before t = ap (at_number prefixes) (sym is) ∙ p t one in
           f k ∙ ap (λ b. not b && left k) (e k) ∙ turned (old k) (prefixes k) (left k) ∙ ap (λ b. left k && (old k || not b)) same
 
--- where the utility was `getopts`, OPTARG is gone too, and where it was another one, nothing more
+-- if the utility was `getopts`, OPTARG is gone too, and if it was another one, nothing more
 pub either_with : (function t : Text) (mid new kept : Bool) → bytes_eq function (codes "getopts") ≡ true → new ≡ (mid && not (bytes_eq (codes "OPTARG") t)) → mid ≡ kept
     → new ≡ (kept && passes function t)
 unfolding passes

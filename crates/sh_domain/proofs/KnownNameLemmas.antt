@@ -26,7 +26,7 @@ use Rattle.sh_domain.proofs.OrderLemmas.{among_all}
 
 -- Names in turn
 
--- the first place stays where more comes behind
+-- the first place stays if more comes after
 found_first : (p : Text → Bool) (i k : ℕ) (xs ys : List Text) → position_from p i xs ≡ Some k → position_from p i (xs ++ ys) ≡ Some k
 found_first p i k [] ys e = cc
 found_first p i k (x ∷ xs) ys e = elim (cases_Bool (p x)) [

@@ -34,7 +34,7 @@ not_itself : (a : Fault) → precedes a a ≡ false
 unfolding precedes
 not_itself a = itself_numbers a.number (rank a.rule)
 
--- What stands in a list
+-- What is in a list
 
 here : (x : Fault) (xs : List Fault) → Contains (x ∷ xs) x
 here x xs = (0, omega arith, refl)

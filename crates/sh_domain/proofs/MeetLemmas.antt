@@ -35,7 +35,7 @@ meet_over f g h =
     (meet_greatest f g _ (meet_first f (meet g h)) (within_through _ _ _ (meet_second f (meet g h)) (meet_first g h)))
     (within_through _ _ _ (meet_second f (meet g h)) (meet_second g h)))
 
--- Steps behind a meet
+-- Steps after a meet
 
 pub known_same : (v w f g : Text → Bool) (a b : ℕ) → ((x : Text) → v x ≡ w x) → ((x : Text) → f x ≡ g x) → a ≡ b → Known v f a ≡ Known w g b
 known_same v w f g a b p q e = let vars = fun_ext p in let functions = fun_ext q in cc

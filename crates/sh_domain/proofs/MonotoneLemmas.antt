@@ -1,4 +1,4 @@
--- Where more is claimed and less dropped, what the rules allow is more.
+-- If more is claimed and less dropped, what the rules allow is more.
 use Rattle.std.proofs.Common.{◌≡◌, ℕ, ◌*◌, ◌≤◌, Bool, true, false, cond, not, ◌&&◌, ◌||◌, if◌then◌else◌, List, [], ◌∷◌, refl, sym, arith, true≢false}
 use Rattle.std.specs.List.{filter}
 use Rattle.std.specs.Str.{bytes_eq}
@@ -63,7 +63,7 @@ returned_grows m n names (Known t u d) (Known y z c) v w f g a b h k parts =
     (λ x. or_grows _ (u x) _ (z x) (kept_grows m.functions n.functions f g h.functions parts.functions x) (at_return.functions x))
     parts.args
 
--- a built-in utility that may run keeps no more than the function, where it returns
+-- a built-in utility that may run keeps no more than the function where it returns
 returned_more : (m n : Names) (function : Text) (names : List Text) (s : Facts) (v w f g : Text → Bool) (a b : ℕ) → AreAmong n m → Parts v w f g a b
     → IsWithin (Known (λ x. kept m.vars v x && passes function x) (λ x. kept m.functions f x) a) (returned n names s w g b)
 unfolding returned
@@ -172,7 +172,7 @@ loss_falls start c d n (OfUnseen vars v) below = record {
 among_through : (a b c : Names) → AreAmong a b → AreAmong b c → AreAmong a c
 among_through a b c h k = record { vars = λ x e. k.vars x (h.vars x e); functions = λ x e. k.functions x (h.functions x e) }
 
--- a test that tells nothing holds
+-- a test that reports nothing holds
 pub told_none : (b : Bool) (n : ℕ) (rule : FlowRule) → told b n rule ≡ [] → b ≡ true
 unfolding told
 told_none true n rule e = refl

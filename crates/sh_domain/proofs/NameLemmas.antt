@@ -85,7 +85,7 @@ texts_stop f first xs i x old e lt at known h =
     subst (λ ts. Refuses (fold with_text first ts) e) (sym (texts_one f xs))
     (names_stop (λ y. f y ∷ []) first xs i x old e lt at (known ∙ ap (fold with_text first) (texts_one f (take i xs))) h)
 
--- Texts behind the keys of a set
+-- The texts of the keys of a set
 
 is_one_of-keys : (t : Text) (keys : List (Vec ℕ Global)) → list_any (λ v. bytes_eq t v.items) keys ≡ is_one_of (map (λ v. v.items) keys) t
 is_one_of-keys t [] = refl

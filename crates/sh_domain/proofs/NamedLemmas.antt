@@ -1,4 +1,4 @@
--- Where a command of a program is formed, each name that is seen in its tree is a name.
+-- If a command of a program is formed, each name that is seen in its tree is a name.
 use Rattle.std.proofs.Common.{◌≡◌, ℕ, ◌==◌, ◌≤◌, Bool, true, false, not, ◌&&◌, ◌||◌, nat_lt, if◌then◌else◌, List, [], ◌∷◌, ◌++◌, length, take, Option, Some, None, flat_map, refl, sym, ap, ◌∙◌, subst, arith}
 use Rattle.std.specs.List.{list_all}
 use Rattle.std.specs.Prelude.{codes}
@@ -73,7 +73,7 @@ begins t h = go (is_first is_name_start t) (and_parts (not (name_length t == 0))
     go true h = refl
     go false h = h
 
--- what stands before the `=` of an assignment
+-- what is before the `=` of an assignment
 front_is_name : (t : Text) → is_assignment t ≡ true → is_name (take (name_length t) t) ≡ true
 front_is_name t h =
     let first = begins t h in

@@ -26,7 +26,7 @@ held n (l ∷ ls) = cond (command_number l == n) 1 0 + held n ls
 pub next_given : (n count : ℕ) → cond (count + 1 == n) 1 0 + cond (nat_le n count) 1 0 ≡ cond (nat_le n (count + 1)) 1 0
 next_given n count = grind (arith, nat_tests)
 
--- where no number is held twice, no two commands have one
+-- if no number is held twice, no two commands have one
 
 first_some : (t : Bool) (m : ℕ) → t ≡ true → 0 < cond t 1 0 + m
 first_some true m e = omega arith

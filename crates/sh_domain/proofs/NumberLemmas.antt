@@ -1,6 +1,8 @@
--- Each number up to their count stands once among the commands of a script that is read: a case for each production.
+-- Each number up to their count occurs once among the commands of a script that is read: a case for
+-- each production.
 --
--- Numbers do not rise along a program either, so they are counted as spots are (OnceLemmas); what passes them is the count of commands.
+-- Numbers do not rise along a program either, so they are counted as spots are (OnceLemmas); what
+-- passes them is the count of commands.
 use Rattle.std.proofs.Common.{◌≡◌, ℕ, zero, suc, ◌+◌, ◌-◌, ◌==◌, Bool, true, false, if◌then◌else◌, Option, List, [], ◌∷◌, ◌++◌, refl, ap, subst, ◌∙◌, ◌≤◌, length, arith, length-append, cond, nat_le}
 use Rattle.sh_tree.specs.declared.tree.AndOr.{AndOr}
 use Rattle.sh_tree.specs.declared.tree.Binary.{Binary}
@@ -50,7 +52,7 @@ use Rattle.sh_domain.proofs.NumberCounts.{next_given, numbers_from_held, held, h
 module _ (whole : List ℕ) (n : ℕ) where
   -- Here-documents
 
-  -- how many commands with the number stand in a body
+  -- how many commands with the number are in a body
   abbrev in_body : Document → ℕ
   in_body d = held n (word_located (parts_from whole d.text.parts))
 
@@ -112,7 +114,8 @@ module _ (whole : List ℕ) (n : ℕ) where
   unfolding given
   given_next count = next_given n count
 
-  -- what is read where the count goes from i to j has the number h times; the bodies that come meanwhile ku - ks times, and those of the operators cu - cs times
+  -- what is read where the count goes from i to j has the number h times; the bodies that come
+  -- meanwhile ku - ks times, and those of the operators cu - cs times
   record Gives (i j h ks cs ku cu : ℕ) : Type 0 where
     exact : h + ku + cs + given i ≡ ks + cu + given j
 

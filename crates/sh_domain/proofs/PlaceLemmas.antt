@@ -1,4 +1,5 @@
--- Where a name belongs among names in byte order: there is one place, before it all that do not come after the name.
+-- Where a name belongs among names in byte order: there is one place, before it all that do not
+-- come after the name.
 use Rattle.std.proofs.Common.{◌≡◌, ℕ, zero, suc, ◌<◌, ◌≤◌, Bool, true, false, not, if◌then◌else◌, List, [], ◌∷◌, length, get_or, take, map, fold, refl, sym, ap, arith, subst, true≢false}
 use Rattle.std.specs.Cmp.{IsStrictWeakOrder}
 use Rattle.std.specs.List.{position_or_len}

@@ -1,4 +1,4 @@
--- Texts behind references, and names among texts.
+-- Texts that references lead to, and names among texts.
 use Rattle.std.proofs.Common.{◌≡◌, ℕ, ◌+◌, Bool, true, false, cond, not, ◌&&◌, List, [], ◌∷◌, map, Option, Some, None, Bor, Vec, Global, refl, ap, sym, ◌∙◌}
 use Rattle.std.specs.List.{list_all, position, position_from}
 use Rattle.std.proofs.lemmas.Iterator.Adapters.{position_from-zero}

@@ -42,7 +42,7 @@ found_bits rows row i h k =
     let words : row.words.items ≡ (get_or rows i row).words.items = equal_words row (get_or rows i row) p.1 in
     bits_at rows i (get_or rows i row) (slice_get-get_or rows i row p.0) k ∙ ap (λ ws. has_bit k ws) (sym words)
 
--- where a row is not found, none of its words is there
+-- if a row is not found, none of its words is there
 pub not_there : (rows : List BitRow) (row : BitRow) (i : ℕ) (r : BitRow) (n : ℕ) → false ≡ list_any (equal row) rows → All (λ s. s.count ≡ n) rows → row.count ≡ n
     → slice_get rows i ≡ Some r → r.words.items ≡ row.words.items → ⊥
 not_there rows row i r n h all own e words =

@@ -135,7 +135,8 @@ among_all : (q : Text → Bool) (v : Text) (us : List Text) → list_all q us �
 among_all q v [] h g = absurd (true_false (sym g))
 among_all q v (u ∷ us) h g = among_step q u v us (bytes_eq u v) refl (and_parts (q u) (list_all q us) h).0 g (among_all q v us (and_parts (q u) (list_all q us) h).1)
 
--- Of texts that rise, those that are among others that rise, and that stand all among them, are these others
+-- Of texts that rise, those that are among others that rise, and that are all among them, are these
+-- others
 
 abbrev AllAmong : List Text → List Text → Type 0
 AllAmong ts us = (t : Text) → is_one_of ts t ≡ true → is_one_of us t ≡ true

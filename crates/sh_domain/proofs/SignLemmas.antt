@@ -1,4 +1,5 @@
--- What signs of words and tokens of arithmetic hold is formed: a parameter is a name or a number from 1, and plain bytes are some.
+-- What signs of words and tokens of arithmetic hold is formed: a parameter is a name or a number
+-- from 1, and plain bytes are some.
 use Rattle.std.proofs.Common.{◌≡◌, ℕ, ◌+◌, ◌-◌, ◌*◌, ◌<◌, ◌≤◌, ◌==◌, Bool, true, false, not, ◌&&◌, ◌||◌, cond, Option, Some, None, is_some, List, [], ◌∷◌, length, take, drop, nat_le, refl, sym, ap, subst, ◌∙◌, arith, length-take}
 use Rattle.std.specs.List.{list_all}
 use Rattle.std.proofs.lemmas.Bool.{true≢false, and_parts, and_left, cond-true, cond_both, eqb-true, lt-ltb}
@@ -24,7 +25,7 @@ use Rattle.sh_domain.specs.Inclusions.{parameter_formed}
 
 -- Plain bytes
 
--- no plain byte, where some stand
+-- no plain byte, if some are
 abbrev lacks : Sign → ℕ → Bool
 lacks sign.Plain n = n == 0
 lacks _ n = false
@@ -285,7 +286,7 @@ module _ (whole : List ℕ) where
       let dollar : (c == 36) ≡ true = dollar_left x.site c meant backslash apostrophe quotation backquote in
       dollar_formed x i cs h (sym (cond-true (c == 36) (words.is_literal_dollar (words.is_quoted x.site) cs) _ dollar) ∙ literal)))))
 
-  -- what is left of a byte that does not stand for itself
+  -- what is left of a byte that is not literal
   left : (s t l m k : Bool) → s ≡ false → t ≡ false → l ≡ false → (not s && not t && not l && (not m || k)) ≡ false → (m ≡ true) × (k ≡ false)
   left true t l m k a b c h = absurd (true≢false a)
   left false true l m k a b c h = absurd (true≢false b)
@@ -306,7 +307,7 @@ module _ (whole : List ℕ) where
 
   -- Tokens
 
-  -- what stands from i to e under the sign is formed: plain bytes are some
+  -- what is from i to e under the sign is formed: plain bytes are some
   abbrev pub token_formed : Sign → ℕ → ℕ → Bool
   token_formed sign.Plain i e = not (length (text_of whole (span i e)) == 0)
   token_formed g i e = sign_formed g

@@ -285,7 +285,7 @@ unfolding whole_line
 whole_some f k t None x h e = absurd (err_ok e)
 whole_some f k t (Some y) x h e = let p = formed_some k y.1 (f y.0) x e in (y.0, p.0, ap (λ u. y.0 ++ 10 ∷ u) (sym p.1) ∙ h y refl)
 
--- a line that is read, and what is behind it
+-- a line that is read, and what is after it
 pub line_spelled : {A : Type 0} (f : Text → Option A) (k : ℕ) (t : Text) (x : A × Text) → read_line f k t ≡ Ok x → (l : Text) × (f l ≡ Some x.0) × (l ++ 10 ∷ x.1 ≡ t)
 line_spelled f k t x e = whole_some f k t (cut_at 10 t) x (cut_spelled t) e
 

@@ -43,7 +43,7 @@ target_once q f None at name = let none = times_none q in omega arith
 target_once q f (Some operator) at name = name_once q f U3 at name (word_place q at U3 name is_word_U3)
 
 module _ (U : Entered → List Place) (q : Place) (known : ℕ → Facts) where
-  -- how often the place is told of commands
+  -- how often the place is reported of commands
   nested : List Entered → ℕ
   nested es = times q (flat_map U es)
 
@@ -77,11 +77,11 @@ module _ (U : Entered → List Place) (q : Place) (known : ℕ → Facts) where
   only_nested : (c : List Entered) (e : List Spot) → nested c ≤ hits q e → times q [] + nested c ≤ hits q e
   only_nested c e h = let a = times_none q in omega arith
 
-  -- of words, and of what stands in commands behind them
+  -- of words, and of what is in commands after them
   own_then : (a : List Place) (c d : List Entered) (e f : List Spot) → times q a + nested c ≤ hits q e → nested d ≤ hits q f → times q a + nested (c ++ d) ≤ hits q (e ++ f)
   own_then a c d e f h k = let y = nested_join c d in let z = hits_join q e f in omega arith
 
-  -- of a place, and of what stands behind it
+  -- of a place, and of what comes after it
   place_then : (s : Spot) (a b : List Place) (c : List Entered) (f : List Spot) → times q a ≤ hits q (s ∷ []) → times q b + nested c ≤ hits q f → times q (a ++ b) + nested c ≤ hits q (s ∷ f)
   place_then s a b c f h k = let x = times_join q a b in let z = hits_cons q s f in omega arith
 
@@ -94,7 +94,7 @@ module _ (U : Entered → List Place) (q : Place) (known : ℕ → Facts) where
   no_place : (s : Spot) → times q [] + nested [] ≤ hits q (s ∷ [])
   no_place s = let a = times_none q in let b = nested_none in omega arith
 
-  -- of arithmetic: its expansions, the names that it reads, and what stands in it
+  -- of arithmetic: its expansions, the names that it reads, and what is in it
   three : (a b v w : List Place) (c d : List Entered) (e f : List Spot) → times q a + times q v + nested c ≤ hits q e → times q b + times q w + nested d ≤ hits q f
       → times q (a ++ b) + times q (v ++ w) + nested (c ++ d) ≤ hits q (e ++ f)
   three a b v w c d e f h k = let x = times_join q a b in let u = times_join q v w in let y = nested_join c d in let z = hits_join q e f in omega arith
@@ -114,7 +114,7 @@ module _ (U : Entered → List Place) (q : Place) (known : ℕ → Facts) where
   joined : (a v : List Place) (c : List Entered) (e : List Spot) → times q a + times q v + nested c ≤ hits q e → times q (a ++ v) + nested c ≤ hits q e
   joined a v c e h = let x = times_join q a v in omega arith
 
-  -- of a command that stands there: its own places, those of its words, and what stands in it
+  -- of a command that is there: its own places, those of its words, and what is in it
   whole : (s : Spot) (own : Entered) (r k : List Place) (c d : List Entered) (e f : List Spot) → times q (U own) ≤ hits q (s ∷ []) + times q r + times q k
       → times q r + nested c ≤ hits q f → times q k + nested d ≤ hits q e → nested (own ∷ (c ++ d)) ≤ hits q (s ∷ (e ++ f))
   whole s own r k c d e f h i j =

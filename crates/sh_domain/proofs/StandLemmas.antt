@@ -1,4 +1,4 @@
--- What holds of each command of a tree holds of each command of its program, where it stands.
+-- What holds of each command of a tree holds of each command of its program, where it is.
 use Rattle.std.proofs.Common.{◌≡◌, ℕ, Bool, true, List, ◌++◌, refl, sym, ◌∙◌}
 use Rattle.std.specs.List.{list_all}
 use Rattle.std.proofs.lemmas.Bool.{and_parts, and_from}

@@ -1,4 +1,5 @@
--- A script that is read within the limits has no more commands than it may, so no more rows of its call table.
+-- A script that is read within the limits has no more commands than it may, so no more rows of its
+-- call table.
 use Rattle.std.proofs.Common.{◌≡◌, ℕ, zero, suc, ◌+◌, ◌<◌, ◌≤◌, ◌==◌, Bool, true, false, cond, nat_le, nat_lt, if◌then◌else◌, List, [], ◌∷◌, map, length, refl, sym, ap, ◌∙◌, arith, eq-eqb, subst, le_trans}
 use Rattle.std.proofs.lemmas.Bool.Decides.{nat_tests}
 use Rattle.std.proofs.lemmas.List.{length-map}

@@ -1,4 +1,4 @@
--- The names that are numbered of a script that is read are names, but for `!`.
+-- The names that are numbered of a script that is read are names, except for `!`.
 use Rattle.std.proofs.Common.{◌≡◌, ℕ, ◌+◌, ◌<◌, ◌==◌, Bool, true, false, not, ◌||◌, if◌then◌else◌, cond, nat_le, List, [], ◌∷◌, ◌++◌, map, fold, flat_map, refl, sym, ap, ◌∙◌, inl, inr, arith, true≢false, append_assoc, eq-eqb}
 use Rattle.std.specs.List.{list_all, sum_by}
 use Rattle.std.specs.List.Sorted.{IsPermutation}
@@ -31,7 +31,8 @@ use Rattle.sh_domain.proofs.NumberLemmas.{read_given}
 use Rattle.sh_domain.proofs.ReadLemmas.{read_formed}
 use Rattle.sh_domain.proofs.StandLemmas.{all_stand}
 
--- Each command of the tree is formed, since each number stands as often in the tree as in the program
+-- Each command of the tree is formed, since each number occurs as often in the tree as in the
+-- program
 
 abbrev one_if : Bool → ℕ
 one_if t = cond t 1 0
@@ -96,7 +97,7 @@ unfolding has_number
 empty_fails n l = let other : not (0 == n) ≡ true = grind (arith, nat_tests, l) in or_left (not (0 == n)) _ other
 
 module _ (b : List ℕ) (t : Script) (reads : Reads b t) where
-  -- a number stands as often in the program as in the tree, and from 1
+  -- a number occurs as often in the program as in the tree, and from 1
   as_often : (n : ℕ) → times n (commands_of t) ≡ held n (items_located outside (trees.script_of b t))
   as_often n =
       let tree = tree_given b t reads.0 reads.1 reads.2 n in

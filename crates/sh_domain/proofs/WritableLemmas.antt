@@ -1,4 +1,5 @@
--- What is read of a certificate's text may be written, and a text within its limit is read as its lines are.
+-- What is read of a certificate's text may be written, and a text within its limit is read as its
+-- lines are.
 use Rattle.std.proofs.Common.{◌≡◌, ℕ, ◌≤◌, nat_le, Bool, true, false, ◌&&◌, if◌then◌else◌, List, [], ◌∷◌, length, Option, Some, None, refl, subst, arith, codes, Result, Ok, Err}
 use Rattle.std.specs.Fmt.{decimal}
 use Rattle.std.specs.Str.{bytes_eq}

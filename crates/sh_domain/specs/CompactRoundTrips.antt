@@ -51,7 +51,7 @@ unfoldable pub given_text : List Text → Given → Text
 given_text names (given.Full c) = written names c
 given_text names (given.Compact c) = compact_written names c
 
--- a compact certificate that claims this, unless memory was wanting
+-- a compact certificate that claims this, unless memory ran out
 abbrev pub ClaimsCompact : List Text → CompactSheet → Result Given Refusal → Type 0
 ClaimsCompact names s (Ok g) = given_claims names g ≡ form.Compact s
 ClaimsCompact names s (Err Memory) = Unit {0}

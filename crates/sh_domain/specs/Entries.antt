@@ -64,7 +64,7 @@ unfoldable pub link_seen : Link → After → Seen
 link_seen link.AndThen o = if_zero o
 link_seen link.OrElse o = if_nonzero o
 
--- `a && b` is zero where b is, `a || b` is not zero where b is not
+-- `a && b` is zero if b is, `a || b` is not zero if b is not
 unfoldable pub linked : Link → After → After → After
 linked link.AndThen o q = Each (if_zero q) (if_nonzero o ++ if_nonzero q)
 linked link.OrElse o q = Each (if_zero o ++ if_zero q) (if_nonzero q)

@@ -37,7 +37,7 @@ pub record KeepsStated (start : Facts) (t : Items) (stated c : Certificate) : Ty
   pub drops : (function : Text) → c.drops function ≡ stated.drops function
   pub rules : flat_map (broken start c) (filter bounds_filled (script_bounds t)) ≡ []
 
--- It is filled if it claims at each place what any other such one does. Its names stand as its text
+-- It is filled if it claims at each place what any other such one does. Its names are as its text
 -- has them.
 pub record IsFilled (b : List ℕ) (t : Script) (names : List Text) (start : Facts) (stated : Certificate) (c : Sheet) : Type 0 where
   pub fit : Fits b t names c

@@ -55,7 +55,7 @@ is_rising [] = true
 is_rising (t ∷ []) = true
 is_rising (t ∷ u ∷ ts) = precedes t u && is_rising (u ∷ ts)
 
--- `!` may stand among variables
+-- `!` may be among variables
 abbrev pub is_variable : Text → Bool
 is_variable t = is_name t || bytes_eq (codes "!") t
 

@@ -71,7 +71,7 @@ unfoldable mutual
   operands_formed p.no_operands = true
   operands_formed (p.more_operands operator e rest) = expression_formed e && operands_formed rest
 
--- a word that is split: where its text is static it gives a field
+-- a word that is split: if its text is static it gives a field
 abbrev pub field_formed : p.Word → Bool
 field_formed w = word_formed w && (not (is_some (word_text w)) || some_gives_field w)
 
@@ -121,7 +121,7 @@ command_formed (p.command n offset kind rs) = kind_formed kind rs && redirects_f
 abbrev pub is_formed : p.Items → Bool
 is_formed t = list_all (λ (l : Located). command_formed l.command) (items_located outside t)
 
--- what may be left from within: as the profile asks it
+-- what may be left from within: as the profile requires it
 abbrev pub surroundings_of : Around → Surroundings
 surroundings_of x = record { loop = not (length x.loops == 0); function = is_some x.function }
 

@@ -17,7 +17,7 @@ use Rattle.sh_domain.specs.Names.{IsNumbering, number_of}
 use Rattle.sh_domain.specs.NumberSets.{numbers_of}
 use Rattle.sh_domain.specs.Views.{Certificate, Define, Lose, step}
 
--- the test of a name's number, which fails where it has none
+-- the test of a name's number, which fails if it has none
 unfoldable pub at_number : (ℕ → Bool) → Option ℕ → Bool
 at_number p None = false
 at_number p (Some k) = p k

@@ -70,7 +70,7 @@ unfoldable mutual
   word_unmet f p.no_parts = []
   word_unmet f (p.more_parts x w) = part_unmet f x ++ word_unmet (with_gains (part_gains x) f) w
 
-  -- `-`, `=`, `?` and `+` need no parameter, and where the word of `+` is expanded it is set
+  -- `-`, `=`, `?` and `+` need no parameter, and if the word of `+` is expanded it is set
   pub operator_unmet : Facts → ℕ → p.Parameter → p.Operator → List Place
   operator_unmet f at parameter p.Value = needed f at parameter
   operator_unmet f at parameter p.Length = needed f at parameter

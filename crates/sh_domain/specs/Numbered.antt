@@ -24,7 +24,7 @@ unfoldable pub next_name : Bool → Text → Text
 next_name true t = t
 next_name false t = 44 ∷ t
 
--- the same, or nothing where the name is not wanted
+-- the same, or nothing if the name is not wanted
 unfoldable pub next_if : (wanted is_first : Bool) → Text → Text
 next_if true is_first t = next_name is_first t
 next_if false is_first t = []

@@ -49,7 +49,7 @@ Fits start c d (Counted function n loss) = AreAmong (lost start d n loss) (c.dro
 
 -- If more is claimed and less dropped, each step leaves more, each view and what is seen claim
 -- more, and each command drops less. So a certificate without a fault that is below another fits
--- all that this one requires. If that one is lowered to what it requires, it stays above.
+-- all that the other requires. If the other is lowered to what it requires, it stays above.
 pub record Monotone : Type 0 where
   pub step : (c d : Certificate) (x : Step) (f g : Facts) → IsBelow c d → IsWithin f g → IsWithin (step c x f) (step d x g)
   pub view : (start : Facts) (c d : Certificate) (v : View) → IsBelow c d → IsWithin (view_facts start c v) (view_facts start d v)

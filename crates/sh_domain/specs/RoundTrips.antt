@@ -69,7 +69,7 @@ claimed names c = sheet_of (in_byte_order names) c
 abbrev pub written : List Text → Certificate → Text
 written names c = certificate_text (claimed names c)
 
--- a certificate that claims this, unless memory was wanting
+-- a certificate that claims this, unless memory ran out
 abbrev pub Claims : List Text → Sheet → Result Certificate Refusal → Type 0
 Claims names s (Ok c) = claimed names c ≡ s
 Claims names s (Err Memory) = Unit {0}

@@ -22,7 +22,7 @@ use Rattle.sh_domain.specs.Table.{Manner, Nameless, Utility, manner, prefixes, a
 use Rattle.sh_domain.specs.Table as table
 use Rattle.sh_domain.specs.Views.{Slot, Before, AfterZero, AfterNonzero, Head, Entry, ReturnsZero, ReturnsNonzero, View, Seen, After, Both, if_zero, if_nonzero, in_any_case, at, gaining, gaining_names, stepped, Count, Define, Call, Loss, OfNames, OfFunction, OfUnseen}
 
--- What has to hold, and the command that breaks the rule where it does not.
+-- What has to hold, and the command that breaks the rule if it does not.
 pub data Constraint : Type 0 where
   -- the fact of this slot is within what the view claims
   Within : (slot : Slot) (number : ℕ) (rule : FlowRule) → View → Constraint
@@ -92,7 +92,7 @@ utility_losses functions (kind.Special known.Unset) ws =
 utility_losses functions kind.Getopts ws = OfNames (record { vars = codes "OPTARG" ∷ []; functions = [] }) ∷ []
 utility_losses functions _ ws = []
 
--- the built-in utility `getopts` runs where no function of the name is defined
+-- the built-in utility `getopts` runs if no function of the name is defined
 abbrev pub builtin_losses : Text → List Loss
 builtin_losses f = if bytes_eq f (codes "getopts") then OfNames (record { vars = codes "OPTARG" ∷ []; functions = [] }) ∷ [] else []
 
@@ -144,8 +144,7 @@ module _ (x : Around) (n : ℕ) (es : p.Elements) where
       ++ jumps x n kind ws (gaining (and_gains (assignments_gains es) (redirections_gains es)) behind)
   simple_bounds (table.Call f ws) = call_bounds f ws
 
--- F6: `if` leaves what its branches leave, and without `else` what is known where no condition is
--- zero
+-- F6: `if` leaves what its branches leave, and without `else` what is known if no condition is zero
 
 unfoldable pub branches_bounds : ℕ → Seen → p.Branches → List Constraint
 branches_bounds n s p.no_branches = []
@@ -200,7 +199,7 @@ kind_bounds functions x n s (p.Case w cs) =
 kind_bounds functions x n s (p.Define name body) =
     bound (AfterZero n) n F13 (stepped (Define name) (at (Before n))) ++ body_bounds name body
 
--- F10: where a redirection of a compound command fails, what was known before it is known
+-- F10: if a redirection of a compound command fails, what was known before it is known
 unfoldable pub redirects_bounds : ℕ → p.Redirects → List Constraint
 redirects_bounds n rs = if is_redirected rs then bound (AfterNonzero n) n F10 (at (Before n)) else []
 

@@ -56,7 +56,7 @@ claim_at functions s (Entry f) = (function_at functions s.functions f).before
 claim_at functions s (ReturnsZero f) = (function_at functions s.functions f).zero
 claim_at functions s (ReturnsNonzero f) = (function_at functions s.functions f).nonzero
 
--- the certificate that the rules and the demands are asked of
+-- the certificate on which the rules and the demands are tested
 abbrev pub certificate_of : List Text → Sheet → Certificate
 certificate_of functions s = record { claim = claim_at functions s; drops = λ f. (function_at functions s.functions f).drops }
 

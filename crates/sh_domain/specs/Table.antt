@@ -80,7 +80,7 @@ module _ (behind : Seen) (ws : List Word) (left : Gains) (names : List Text) (re
   abbrev pub without_optarg : Seen → Seen
   without_optarg s = stepped (Lose (record { vars = codes "OPTARG" ∷ []; functions = [] })) s
 
-  -- `set` with positional words: as many as are counted; where it fails, no more than there were
+  -- `set` with positional words: as many as are counted; if it fails, no more than there were
   unfoldable pub after_set : Option (List Word) → After
   after_set None = Both settled
   after_set (Some vs) =
@@ -111,6 +111,6 @@ module _ (behind : Seen) (ws : List Word) (left : Gains) (names : List Text) (re
   after_utility kind.Getopts = Each (without_optarg (gaining_names (unless_prefixed (getopts_names ws)) behind)) (without_optarg behind)
   after_utility _ = Both behind
 
-  -- without a name: where it fails, redirections may have failed, and assignments may not be done
+  -- without a name: if it fails, redirections may have failed, and assignments may not be done
   unfoldable pub after_nameless : After
   after_nameless = Each settled (if redirected then behind else settled)

@@ -49,7 +49,7 @@ pub record View : Type 0 where
   pub source : Source
   pub steps : List Step
 
--- What is known is what all of these views claim; where there is none, anything may be claimed.
+-- What is known is what all of these views claim; if there is none, anything may be claimed.
 abbrev pub Seen : Type 0
 Seen = List View
 
@@ -123,7 +123,7 @@ most_fields = 65535
 abbrev pub counted_by : Total → ℕ → ℕ
 counted_by n a = min most_fields (n.ones + n.parameters * a)
 
--- where no function is surely defined, a built-in utility may run, and `getopts` may unset OPTARG
+-- if no function is surely defined, a built-in utility may run, and `getopts` may unset OPTARG
 unfoldable pub passes : Text → Text → Bool
 passes function x = not (bytes_eq function (codes "getopts") && bytes_eq x (codes "OPTARG"))
 
@@ -135,7 +135,7 @@ returned d prefixes NotReached v f a = NotReached
 returned d prefixes (Known w g b) v f a =
     Known (λ x. (kept d.vars v x || w x) && (v x || not (is_one_of prefixes x))) (λ x. kept d.functions f x || g x) a
 
--- where it may not be defined: what was known and is not dropped
+-- if it may be undefined: what was known and is not dropped
 abbrev pub left : Names → Text → (Text → Bool) → (Text → Bool) → ℕ → Facts
 left d function v f a = Known (λ x. kept d.vars v x && passes function x) (λ x. kept d.functions f x) a
 

@@ -31,7 +31,7 @@ use Rattle.sh_facts.proofs.LineLemmas.{line_read, line_refused}
 use Rattle.sh_facts.proofs.ReadingLemmas.{stay_on}
 use Rattle.sh_domain.proofs.WritingLemmas.{commands_append}
 
--- Lines behind others
+-- Lines after others
 
 unfoldable pub onto : {A : Type 0} → List A → Reading (List A) → Reading (List A)
 onto xs r = behind r (λ y. Ok (xs ++ y.0, y.1))

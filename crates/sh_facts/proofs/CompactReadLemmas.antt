@@ -58,7 +58,7 @@ unfolding loop_numbers
 numbers_end commands j numbers le inv =
     sym (append-nil numbers) ∙ sym (ap (λ (cs : List (Bor Command)). numbers ++ loop_numbers (1 + j) (loops_of cs)) (drop_all j commands le)) ∙ inv
 
--- Lines behind others
+-- Lines after others
 
 module _ (count j least : ℕ) (t left : Text) (xs : List (ℕ × Claim)) (lt : j < count) (inv : read_turns 4 0 count t ≡ onto xs (read_turns (4 + j) least (count - j) left)) where
   more : count - j ≡ suc (count - (j + 1))

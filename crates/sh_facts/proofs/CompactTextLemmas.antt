@@ -59,7 +59,7 @@ pub turn_bytes : (h : ℕ × Claim) → length (line (turn_fields h)) ≡ 3 + le
 unfolding bytes_of
 turn_bytes h = omega (arith, line_bytes (codes "h") (decimal h.0 ∷ claim_text h.1 ∷ []))
 
--- those of the loops behind the first i
+-- those of the loops after the first i
 unfoldable pub turns_bytes : (order : List (ℕ × Text)) → KeptRows → List (ℕ × value.Facts) → ℕ → ℕ
 turns_bytes order rows hs i = length (turn_lines (turns_of order rows (drop i hs)))
 

@@ -236,7 +236,7 @@ missed t names loops functions P (Profile r a) i h = absurd h
 missed t names loops functions P (CertSyntax a) i h = absurd h
 missed t names loops functions P CertShape i h = i h
 
--- The answer of either version is that of the version that the first line tells
+-- The answer of either version is that of the version that the first line gives
 
 module _ (t : Text) (script : Script) (names : List Text) (functions : ℕ) where
   pub compact_read : (c : Compact) → ReadsCompact t script functions names (Ok c) → ReadsGiven t script functions names (Ok (given.Compact c))

@@ -46,7 +46,7 @@ pub row_kept : (old new from : KeptRows) (kept id : RowId) → new.count ≡ old
     → Keeps old new (λ later. (order : List (ℕ × Text)) → names_at order later kept ≡ names_at order from id)
 row_kept old new from kept id count stay found lt = record { count = count; stay = stay; lasting = λ later s order. same_row order new later from kept id found lt s }
 
--- what is said behind both, of one after the other
+-- what is said after both, of one after the other
 pub both_kept : {a b c : KeptRows} {P Q : KeptRows → Type 0} → Keeps a b P → Keeps b c Q → Keeps a c (λ r. P r × Q r)
 both_kept {a} {b} {c} x y = record {
   count = y.count ∙ x.count;
@@ -87,7 +87,8 @@ module _ (from : KeptRows) where
 
 -- Sets of numbers
 
--- of names that are numbered, those whose numbers pass either of two tests that are one below the count
+-- of names that are numbered, those whose numbers pass either of two tests that are one below the
+-- count
 same_among : (names : List Text) (f g : ℕ → Bool) → ((k : ℕ) → k < length names → f k ≡ g k) → (xs : List (ℕ × Text)) → AllByRecursion (IsAt names) xs
     → filter (λ (x : ℕ × Text). f x.0) xs ≡ filter (λ (x : ℕ × Text). g x.0) xs
 same_among names f g h [] a = refl
@@ -168,7 +169,7 @@ pub turns_end : (c : Certificate) (a b : KeptRows) (i : ℕ) (hs : List (ℕ × 
     → Keeps a b (λ later. (order : List (ℕ × Text)) → turns_of order later hs ≡ turns_from 1 (commands_from order c 1 c.entries.items))
 turns_end c a b i hs le x = kept_says (λ r p order. p order ∙ ap (λ xs. turns_from 1 (commands_from order c 1 xs)) (take_all i c.entries.items le)) x
 
--- what is put behind the others
+-- what is put after the others
 pub head_put : (order : List (ℕ × Text)) (rows : KeptRows) (hs : List (ℕ × value.Facts)) (number : ℕ) (f : value.Facts) (x : Claim) → claim_of order rows f ≡ x
     → turns_of order rows (hs ++ (number, f) ∷ []) ≡ turns_of order rows hs ++ with_turn number (Some x) []
 unfolding with_turn

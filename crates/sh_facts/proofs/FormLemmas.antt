@@ -28,7 +28,7 @@ and_false : (a : Bool) → (a && false) ≡ false
 and_false true = refl
 and_false false = refl
 
--- how much is left, where the end is less than an empty text
+-- how much is left, if the end is less than an empty text
 unfoldable pub room : Option (Bor (List ℕ)) → ℕ
 room None = 0
 room (Some t) = 1 + length t.now
@@ -87,7 +87,7 @@ valued_not n c t e = go (is_ascii_digit c && nat_le (digit_behind n c) 65535) e
     go true h = absurd (none_some h)
     go false h = refl
 
--- the number that a text writes is told by its text
+-- the text says which number it writes
 pub number_same : (k : ℕ) → k ≤ 65535 → (t : Text) → option_eq nat_eq (number_in t) (Some k) ≡ bytes_eq (decimal k) t
 number_same k l t = go (bytes_eq (decimal k) t) refl
   where
@@ -127,7 +127,7 @@ number_ends t i n le h inv = sym (number_valued t h ∙ sym inv ∙ ap (valued n
 
 -- Names in rising byte order
 
--- names that rise behind another
+-- names that rise after another
 abbrev pub rises_behind : (Text → Bool) → Text → List Text → Bool
 rises_behind is_one last ts = list_all is_one ts && is_rising (last ∷ ts)
 

@@ -1,4 +1,4 @@
--- The length of a line is that of its fields, with one byte behind each.
+-- The length of a line is that of its fields, with one byte after each.
 use Rattle.std.proofs.Common.{◌≡◌, ℕ, ◌+◌, ◌/◌, ◌%◌, ◌^◌, ◌<◌, ◌≤◌, nat_eq, List, [], ◌∷◌, ◌++◌, length, map, drop, get_or, Option, Some, None, codes, refl, sym, ap, ap₂, ◌∙◌, arith, rules, length-append}
 use Rattle.std.specs.Fmt.{decimal}
 use Rattle.std.specs.Option.{option_map}
@@ -19,7 +19,7 @@ use Rattle.sh_domain.specs.Operands.{Names}
 use Rattle.sh_domain.specs.Sheets.{CommandClaims, FunctionClaims, joined, names_text, claim_text, drops_text, line, head_fields, first_line, count_fields, command_fields, function_fields, numbered_lines, certificate_text}
 use Rattle.sh_domain.proofs.WritingLemmas.{length_commands}
 
--- texts with one byte behind each
+-- texts with one byte after each
 unfoldable pub bytes_of : List Text → ℕ
 bytes_of [] = 0
 bytes_of (t ∷ ts) = length t + 1 + bytes_of ts
@@ -92,7 +92,7 @@ function_bytes k f = omega (arith, line_bytes (codes "f") (decimal k ∷ claim_t
 
 -- Lines one after the other
 
--- those of the commands behind the first i
+-- those of the commands after the first i
 unfoldable pub commands_bytes : (order : List (ℕ × Text)) → Certificate → ℕ → ℕ
 commands_bytes order c i = length (numbered_lines command_fields (i + 1) (commands_from order c (i + 1) (drop i c.entries.items)))
 
@@ -120,7 +120,7 @@ pub all_commands : (order : List (ℕ × Text)) (c : Certificate) → commands_b
 unfolding commands_bytes
 all_commands order c = refl
 
--- those of the functions behind the first i
+-- those of the functions after the first i
 unfoldable pub functions_bytes : (order : List (ℕ × Text)) → KeptRows → List FunctionEntry → ℕ → ℕ
 functions_bytes order rows es i = length (numbered_lines function_fields (i + 1) (map (function_claims order rows) (drop i es)))
 

@@ -1,4 +1,4 @@
--- Room behind one piece after another.
+-- Room after each piece, one piece after another.
 use Rattle.std.proofs.Common.{◌≡◌, ℕ, ◌+◌, ◌-◌, ◌<◌, ◌≤◌, List, Option, Some, None, arith}
 use Rattle.std.specs.Option.{SomeIff}
 use Rattle.sh_domain.specs.KeptRows.{KeptRows}
@@ -16,12 +16,12 @@ pub no_room : (room n : ℕ) (r : Option ℕ) → r ≡ None → room < n → Le
 no_room room n None e l = l
 no_room room n (Some x) e l = absurd cc
 
--- and the others behind the first
+-- and the others after the first
 pub others : (room left first behind n : ℕ) (r : Option ℕ) → left + first ≡ room → n ≡ first + behind → Leaves left behind r → Leaves room n r
 others room left first behind n None e s h = omega (arith, h)
 others room left first behind n (Some l) e s h = omega (arith, h)
 
--- names of a row that have no room, and a last byte behind the others
+-- names of a row that have no room, and a last byte after the others
 pub no_room_for_names : (rows : KeptRows) (id : RowId) (names : List Text) (from to room : ℕ) (r : Option ℕ) → r ≡ None → room < bytes_from rows id names from → LeavesNames rows id names from to room r
 no_room_for_names rows id names from to room None e l = l
 no_room_for_names rows id names from to room (Some x) e l = absurd cc

@@ -1,4 +1,5 @@
--- The names of a row, whatever their order, take the room that they take in the order of their numbers.
+-- The names of a row, whatever their order, take the room that they take in the order of their
+-- numbers.
 use Rattle.std.proofs.Common.{◌≡◌, ℕ, zero, suc, ◌+◌, ◌/◌, ◌%◌, ◌<◌, ◌≤◌, ◌==◌, Bool, true, false, if◌then◌else◌, List, [], ◌∷◌, length, map, drop, fold, get_or, slice_get, Some, None, refl, ap, ◌∙◌, arith}
 use Rattle.std.specs.List.{filter}
 use Rattle.std.specs.Int.{bit_at}
@@ -15,7 +16,7 @@ use Rattle.sh_domain.specs.Sheets.{precedes, joined, names_text}
 use Rattle.sh_facts.specs.Room.{held_bytes, bytes_from}
 use Rattle.sh_facts.proofs.LengthLemmas.{bytes_of, joined_bytes}
 
--- a name and one byte behind it, if it is wanted
+-- a name and one byte after it, if it is wanted
 abbrev one : Bool → Text → ℕ
 one b t = if b then length t + 1 else 0
 
@@ -112,7 +113,7 @@ pub unnamed : (rows : KeptRows) (id : RowId) (names : List Text) (k : ℕ) → k
 unnamed rows id names k l h =
     at_name rows id names k (get_or names k []) (slice_get-get_or names k [] l) ∙ ap (λ b. one b (get_or names k []) + bytes_from rows id names (k + 1)) h ∙ omega arith
 
--- numbers of which none is in the row take no room
+-- numbers, none of which is in the row, take no room
 pub none_held : (rows : KeptRows) (id : RowId) (names : List Text) (m k : ℕ) → k + m ≤ length names → ((n : ℕ) → k ≤ n → n < k + m → holds_at rows.rows id.index n ≡ false)
     → bytes_from rows id names k ≡ bytes_from rows id names (k + m)
 none_held rows id names zero k le h = let same : k ≡ k + 0 = omega arith in ap (bytes_from rows id names) same

@@ -12,7 +12,7 @@ use Rattle.sh_domain.specs.Sheets.{joined}
 use Rattle.sh_domain.proofs.SpellingLemmas.{none_some, joined_pieces, some_pieces}
 use Rattle.sh_facts.specs.Fields.{sides_of}
 
--- The first match of a needle of one byte is where that byte first stands
+-- The first match of a needle of one byte is where that byte first occurs
 
 bool_same : (a b : Bool) → (a ≡ true → b ≡ true) → (b ≡ true → a ≡ true) → a ≡ b
 bool_same true true f g = refl
@@ -50,7 +50,7 @@ later c d t i j (suc n) e =
     let same : occurs_at (d ∷ t) (c ∷ []) j ≡ occurs_at t (c ∷ []) i = ap (λ k. occurs_at (d ∷ t) (c ∷ []) k) e ∙ occurs_later c d t i in
     later_step _ _ i j _ _ _ _ same e (later c d t (i + 1) (j + 1) n (omega (arith, e)))
 
--- what stands before the place, and what behind it
+-- what is before the place, and what is after it
 abbrev sides_at : Text → Option ℕ → Option (Text × Text)
 sides_at t r = option_map (λ k. (take k t, drop (suc k) t)) r
 

@@ -18,7 +18,7 @@ held_bytes held k (t ∷ ts) = (if held k then length t + 1 else 0) + held_bytes
 unfoldable pub bytes_from : KeptRows → RowId → List Text → ℕ → ℕ
 bytes_from rows id names k = held_bytes (λ n. holds_at rows.rows id.index n) k (drop k names)
 
--- The room that is left after the names of a row from one number up to another. There is none left
--- if all the names that follow do not fit.
+-- The room that is left after the names of a row from one number up to another. It is nothing if
+-- the names from the first number on do not all fit.
 abbrev pub LeavesNames : KeptRows → RowId → List Text → (from to room : ℕ) → Option ℕ → Type 0
 LeavesNames rows id names from to room left = MatchOption left (room < bytes_from rows id names from) (λ l. l + bytes_from rows id names from ≡ room + bytes_from rows id names to)

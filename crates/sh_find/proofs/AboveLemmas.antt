@@ -34,7 +34,7 @@ module _ (names : List Text) (h : AreNumbered names) (functions : List Text) (lo
         (subst (λ a. AreAmong (drops_there e (number_of functions f)) a) (sym (drops_placed functions d f)) (drop (number_of functions f)));
   }
 
-  -- what stands below at the places that slots and functions have
+  -- what is below at the places that slots and functions have
   record Below (d e : Sheet) : Type 0 where
     claim : (slot : Slot) → IsWithin (facts (claim_there d (place_of functions slot))) (facts (claim_there e (place_of functions slot)))
     drop : (f : Text) → AreAmong (drops_there e (number_of functions f)) (drops_there d (number_of functions f))

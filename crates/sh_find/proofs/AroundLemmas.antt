@@ -1,4 +1,4 @@
--- What stands round the commands of a script is of the script.
+-- What is round the commands of a script is of the script.
 use Rattle.std.proofs.Common.{◌≡◌, ℕ, ◌-◌, nat_le, nat_lt, Bool, true, false, ◌&&◌, length, slice_get, unwrap_or, Option, Some, None, List, ◌++◌, refl, sym, ◌∙◌}
 use Rattle.std.specs.List.{list_all}
 use Rattle.std.proofs.lemmas.Bool.{and_from, and_parts}
@@ -10,7 +10,7 @@ use Rattle.sh_domain.specs.declared.rule.FlowRule.{FlowRule}
 use Rattle.sh_domain.specs.Entries.{Around, Entered, alone, in_loop, in_function, is_long, item_around, part_around, items_entered, list_entered, links_entered, pipeline_entered, commands_entered, command_entered, kind_entered, elements_entered, redirect_entered, redirects_entered, branches_entered, otherwise_entered, for_words_entered, words_entered, clauses_entered, patterns_entered, word_entered, part_entered, operator_entered, expression_entered, operands_entered, script_entered}
 use Rattle.sh_domain.specs.Views.{Seen, After}
 
--- a command, and a loop, by its number from 1, where it is told of each command whether it is a loop
+-- a command, and a loop, by its number from 1, if it is known of each command whether it is a loop
 unfoldable pub is_command : List Bool → ℕ → Bool
 is_command loops n = nat_lt 0 n && nat_le n (length loops)
 

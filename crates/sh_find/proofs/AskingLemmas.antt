@@ -1,4 +1,5 @@
--- What is gathered of what the flow rules ask, one thing after the other, and by a walk over a script.
+-- What is gathered of what the flow rules require, one thing after the other, and by a walk over a
+-- script.
 use Rattle.std.proofs.Common.{◌≡◌, ℕ, ◌<◌, ◌≤◌, nat_lt, eqb, Bool, true, false, ◌&&◌, ◌||◌, if◌then◌else◌, Option, Some, None, option_map, List, [], ◌∷◌, length, slice_get, unwrap_or, is_some, refl, sym, ap, ap₂, ◌∙◌, subst, arith, inl, inr, true≢false}
 use Rattle.std.specs.Prelude.{option_and_then}
 use Rattle.std.proofs.Math.Path.{fun_ext}
@@ -181,7 +182,7 @@ none_joined names old k = sym (ap (λ b. old k || b) (none_passes (slice_get nam
 pub nothing_lost : (names : List Text) (g : Gathered) → g ≡ with_sets (numbers_in names no_names) g
 nothing_lost names g = sets_joined g (numbers_in names no_names) g.sets.vars g.sets.functions (none_joined names g.sets.vars) (none_joined names g.sets.functions)
 
--- What a place and a function are asked
+-- What is required of a place and a function
 
 module _ (x : Setting) where
   module _ (slot : Slot) (c : Claim) (k : Facts) (o : Option Place) (kept here : Bool) (old mid : Gathered) (claim : c ≡ claimed_at x slot) (test : kept ≡ within c k)
@@ -230,7 +231,7 @@ module _ (x : Setting) where
   pub none_drops : (name : Text) → entry_of x.kept x.functions name ≡ None → (certificate x).drops name ≡ no_names
   none_drops name is = (entries x).drops name ∙ ap (λ o. unwrap_or (option_map (λ (d : FunctionEntry). drops_of (in_byte_order x.names) x.kept.rows d.drops) o) no_names) is
 
--- What is gathered goes by constraints
+-- What is gathered follows the constraints
 
 module _ (x : Setting) (h : AreNumbered x.names) where
   claimed_fits : {E : Type 0} (f : E → value.Facts) (o : Option E) (c : Claim) → c ≡ unwrap_or (option_map (λ e. claim_of (in_byte_order x.names) x.kept.rows (f e)) o) Unreached → claim_fits x.names c ≡ true
@@ -283,7 +284,7 @@ module _ (b : List ℕ) (d : Declared) (t : Script) (names : List Text) (admitte
       (prefixes_are_numbered b t d x.names (subst (IsNumbering b t d) (sym same) admitted.numbered.0))
       ∙ asked_all gathering x stated start (by_constraints x h start) old (script_bounds (script_of b t))
 
--- all that is asked of a certificate of it is gathered by a walk
+-- all that is required of a certificate of it is gathered by a walk
 pub walk_asks : (s : Subject) (c : kept.Certificate) (z : Claims) → setting z ≡ setting_by s c → (start : Knowledge) (old new : Gathered)
     → AreNumbered s.names.now → IsAdmitted s.script.now s.policy.now s.tree.now s.names.now
     → knowledge_facts s.names.now start ≡ among s.names.now (start_of s)

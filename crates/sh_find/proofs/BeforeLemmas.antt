@@ -1,4 +1,5 @@
--- Where a command is entered, a certificate that keeps the rules claims no more than is known there.
+-- Where a command is entered, a certificate that keeps the rules claims no more than is known
+-- there.
 use Rattle.std.proofs.Common.{◌≡◌, ℕ, ◌-◌, Option, Some, None, List, [], ◌∷◌, ◌++◌, length, nat_lt, Bool, true, false, if◌then◌else◌, sym, ap, ◌∙◌, subst, true≢false, is_some, option_map, unwrap_or, refl, IfSome}
 use Rattle.sh_tree.specs.declared.tree.Command.{Command, out-Command}
 use Rattle.sh_tree.specs.standard.program.Syntax as p
@@ -87,7 +88,7 @@ module _ (stated : Bool) (d : Facts) (c : Certificate) where
       → IsWithin (facts (c.claim (views.Before n))) (seen_facts d c q)
   own_within functions n offset kind rs by y q none = entered_within (views.Before n) n by q (free_before stated n) (parts_of functions n offset kind rs by y q none).0
 
-  -- where a function returns, behind its body
+  -- where a function returns, after its body
   body_within : (f : Text) (m offset : ℕ) (kind : p.Kind) (rs : p.Redirects) → stated ≡ false → Each Unbroken (r.body_bounds f (p.command m offset kind rs))
       → IsWithin (facts (c.claim (ReturnsZero f))) (seen_facts d c (views.at (AfterZero m))) × IsWithin (facts (c.claim (ReturnsNonzero f))) (seen_facts d c (views.at (AfterNonzero m)))
   unfolding r.body_bounds
@@ -135,7 +136,7 @@ module _ (s : Subject) (admitted : IsAdmitted s.script.now s.policy.now s.tree.n
       (kept_there s admitted other keeps by y here.seen (trees.command_of s.script.now c) here.part)))
       here.knows
 
-  -- behind the body of a definition
+  -- after the body of a definition
   module _ (by : FlowRule) (y : Around) (q : Seen) (n offset : ℕ) (name : Text) (body : Command) (rs : p.Redirects)
       (part : IsPart s (command_entered by y q (p.command n offset (p.Define name (trees.command_of s.script.now body)) rs))) (unstated : s.stated ≡ false) where
     returned : (other : Sheet) (keeps : Keeps s other)
@@ -175,7 +176,7 @@ within_place names other p q f g fit same is w =
     subst (λ h. IsWithin (facts (claim_there other (Some p))) h) (sym (ap (by_name names) is ∙ back names f))
     (within_among names (claim_there other (Some p)) f fit (subst (λ r. IsWithin (facts (claim_there other (Some r))) f) same w))
 
--- a place of which the rules speak, if it is there
+-- a place that the rules speak of, if it is there
 pub spot_place : (functions : List Text) (slot : Slot) (spot : Spot) → Some (place_at spot) ≡ place_of functions slot → (r : Option Place) → r ≡ fitting_place (place_at spot) → IfSome r (λ p. Some p ≡ place_of functions slot)
 spot_place fs slot spot same None fits = tt
 spot_place fs slot spot same (Some p) fits = ap Some (sym (fits_place (Some p) p (place_at spot) refl fits)) ∙ same

@@ -1,4 +1,5 @@
--- Facts by the numbers of names: their order, their meet, how much they claim, and the rows that they name.
+-- Facts by the numbers of names: their order, their meet, how much they claim, and the rows that
+-- they name.
 use Rattle.std.proofs.Common.{◌≡◌, ℕ, ◌≤◌, Bool, true, false, List, [], ◌∷◌, refl, sym, arith, le-leb, leb-true, true≢false, zero, suc, ◌+◌, ◌<◌, cond, ◌⊎◌, inl, inr, ap, subst, length, get_or, slice_get, ◌∙◌, IsTrue, ◌↔◌}
 use Rattle.std.proofs.lemmas.Bool.{and_parts, cases_lt}
 use Rattle.sh_find.specs.Facts.{Facts, NotReached, Known, Nowhere, Variable, Function, Parameters, claims, IsWithin, meet}

@@ -1,4 +1,5 @@
--- Where a certificate claims only functions that have names, so do the views that bound it, and so it is with what commands drop.
+-- If a certificate claims only functions that have names, so do the views that bound it, and so it
+-- is with what commands drop.
 use Rattle.std.proofs.Common.{◌≡◌, ℕ, Bool, true, false, not, if◌then◌else◌, List, [], ◌∷◌, inl, inr, sym, subst, true≢false}
 use Rattle.std.specs.List.{list_all}
 use Rattle.std.specs.Str.{bytes_eq}

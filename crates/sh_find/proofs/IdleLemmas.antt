@@ -1,4 +1,5 @@
--- Where nothing is lowered at a place and a function, each constraint is kept that asks something there.
+-- If nothing is lowered at a place and a function, each constraint is kept that requires something
+-- there.
 use Rattle.std.proofs.Common.{◌≡◌, ℕ, ◌≤◌, Bool, true, false, if◌then◌else◌, Option, Some, None, option_map, List, [], ◌∷◌, length, slice_get, unwrap_or, is_some, refl, sym, ap, ◌∙◌, subst, arith, inl, inr, true≢false}
 use Rattle.std.specs.List.{list_all}
 use Rattle.std.specs.Prelude.{filter, not}
@@ -196,7 +197,7 @@ module _ (names : List Text) where
       all_written [] g asks w = w
       all_written (k ∷ ks) g asks w = all_written ks (gathered names functions d c g k) asks.1 (one_written k g asks.0 w)
 
--- All that is asked there is gathered
+-- All that is required there is gathered
 
 module _ (names functions : List Text) (d : Facts) (c : Certificate) where
   if_less : (b : Bool) (f g : number.Facts) → number.IsWithin f g → number.IsWithin (if b then f else g) g
@@ -231,7 +232,7 @@ module _ (names functions : List Text) (d : Facts) (c : Certificate) where
   all_more [] g = record { vars = λ k e. e; functions = λ k e. e }
   all_more (k ∷ ks) g = sets_through _ _ _ (one_more k g) (all_more ks (gathered names functions d c g k))
 
-  -- what a constraint asks there is among that
+  -- what a constraint requires there is among that
   unfoldable IsTaken : Gathered → Constraint → Type 0
   IsTaken g (Within slot n rule v) = is_at (place_of functions slot) g.place ≡ true → number.IsWithin g.known (by_number names (view_facts d c v))
   IsTaken g (Counted f n loss) = is_number (number_of functions f) g.function ≡ true → AreWithin (numbers_in names (lost d c n loss)) g.sets

@@ -1,4 +1,5 @@
--- Whether a command substitution stands in a piece of a tree, by the pieces one level below it; and that nothing is entered where none does.
+-- Whether a command substitution is in a piece of a tree, by the pieces one level below it; and
+-- that nothing is entered if there is none.
 use Rattle.std.proofs.Common.{◌≡◌, ℕ, Bool, true, false, ◌||◌, List, [], ◌∷◌, ◌++◌, Option, refl, sym, ap, ap₂, ◌∙◌}
 use Rattle.std.proofs.lemmas.Bool.{or_parts, true≢false}
 use Rattle.std.specs.List.{list_any}
@@ -187,7 +188,7 @@ element_has-Redirection b r = ap elements_substitute (rules.element_from-Redirec
 
 pub ruleset elements = (element_has-Assignment, element_has-Word, element_has-Redirection)
 
--- Where none stands, no command is entered.
+-- If there is none, no command is entered.
 
 mutual
   unfolding part_substitutes items_entered

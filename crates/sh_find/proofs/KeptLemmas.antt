@@ -271,7 +271,7 @@ else_at (x ∷ xs) zero (suc j) y n = refl
 else_at (x ∷ xs) (suc i) zero y n = refl
 else_at (x ∷ xs) (suc i) (suc j) y n = else_at xs i j y (λ e. n (ap suc e))
 
--- parts do not tell what is dropped
+-- parts do not say what is dropped
 parts_stay : (e : FunctionEntry) (d : Drops) (p : Part) → function_part (record e { drops = d }) p ≡ function_part e p
 unfolding function_part
 parts_stay e d Before = refl

@@ -1,4 +1,5 @@
--- What is known where lists are entered, by the claims of a certificate that stays above all that keep the rules.
+-- What is known where lists are entered, by the claims of a certificate that stays above all that
+-- keep the rules.
 use Rattle.std.proofs.Common.{◌≡◌, ◌==◌, ◌-◌, ℕ, Bool, true, false, List, take, [], ◌∷◌, length, fold, refl, sym, ap, ◌∙◌, subst, arith, true≢false}
 use Rattle.std.proofs.lemmas.Bool.Decides.{nat_tests}
 use Rattle.sh_tree.specs.declared.tree.Item.{Item, out-Item}

@@ -69,7 +69,8 @@ module _ {X : Type 0} (f : X → ℕ) where
       let both = more_times k x xs in
       omega arith
 
-  -- where each number from a + 1 to b is there once, and no other, and they do not fall, they stand in order
+  -- if each number from a + 1 to b is there once, and no other, and they do not fall, they are in
+  -- order
   in_order : (a b : ℕ) (xs : List X) → IsNonDecreasingBy f xs → ((k : ℕ) → times k xs + given k a ≡ given k b) → (i : ℕ) (d : X) → i < length xs → f (get_or xs i d) ≡ a + i + 1
   in_order a b [] s h i d l = absurd (omega arith)
   in_order a b (x ∷ xs) s h i d l = go i l (λ at j m. in_order (a + 1) b xs (λ j k e n o. s (suc j) (suc k) e (omega arith) (omega arith)) at j d m)
@@ -161,7 +162,7 @@ module _ (b : List ℕ) (t : Script) (count : ℕ) (read : ReadsTo b MAX_NESTING
   pub numbers_there : list_all (λ (e : Entered). numbered count e.command) (script_entered (trees.script_of b t)) ≡ true
   numbers_there = sym (script_listed (numbered count) (trees.script_of b t)) ∙ all_numbered (items_located outside (trees.script_of b t)) (λ k. let exact = read_given b t MAX_NESTING count read k in omega arith)
 
--- Loops, where it is told of each command whether it is one
+-- Loops, if it is known of each command whether it is one
 
 module _ (loops : List Bool) where
   unfoldable pub told_loop : ℕ → Bool → Bool

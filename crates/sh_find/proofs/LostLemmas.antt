@@ -1,4 +1,5 @@
--- The names that a rule asks a function to drop are numbered: those of `unset`, of prefix assignments, and OPTARG.
+-- The names that a rule requires a function to drop are numbered: those of `unset`, of prefix
+-- assignments, and OPTARG.
 use Rattle.std.proofs.Common.{◌≡◌, ◌==◌, ℕ, Bool, true, false, not, ◌&&◌, ◌||◌, if◌then◌else◌, cond, Option, Some, None, List, [], ◌∷◌, ◌++◌, fold, flat_map, map, refl, sym, ap, ◌∙◌, true≢false}
 use Rattle.std.specs.Prelude.{codes, drop, filter}
 use Rattle.std.specs.List.{list_all, cons_option}
@@ -110,7 +111,7 @@ filter_all q v (t ∷ ts) h = go (filter_all q v ts (and_parts (q t) (list_all q
     go rest false = rest
 
 module _ (q : Text → Bool) where
-  -- the names of a loss pass the test, but for those that a function drops
+  -- the names of a loss pass the test, except for those that a function drops
   unfoldable pub loss_passes : Loss → Bool
   loss_passes (OfNames names) = list_all q names.vars && list_all q names.functions
   loss_passes (OfFunction f) = true
@@ -336,7 +337,7 @@ module _ (q : Text → Bool) where
         let own = and_parts (list_all q (unset_in e.command)) _ h in
         more (command_asks e.rule e.around e.seen e.command ours.0 own.0) (all_ask es ours.1 own.1)
 
--- What `unset` names stands in the text
+-- What `unset` names is in the text
 
 abbrev names_in : List Sight → List Text
 names_in ss = map (λ (s : Sight). s.name) ss
@@ -434,7 +435,7 @@ optarg_numbered b d t names n =
     ∙ ap (λ ns. is_one_of ns (codes "OPTARG")) (fold-append with_text [] first_names others)
     ∙ all_stay (fold with_text [] first_names) others (codes "OPTARG") first_optarg
 
--- each name that a rule of a script asks a function to drop is numbered
+-- each name that a rule of a script requires a function to drop is numbered
 pub all_lost : (b : List ℕ) (d : Declared) (t : Script) (names : List Text) → IsNumbering b t d names → list_all (asked_passes (is_one_of names)) (script_bounds (trees.script_of b t)) ≡ true
 unfolding script_bounds has_numbered_prefixes
 all_lost b d t names n =

@@ -85,9 +85,9 @@ drops_known rows vars functions f b is same =
     is_none NotReached = true
     is_none (Known v g a) = false
 
--- Names that may stand
+-- Names that may be there
 
--- with the name of one more number, where it may stand
+-- with the name of one more number, if it may be there
 pub written_more : (names : List Text) (old new : Sets) (n : ℕ) (t : Text) (v f : Bool) → slice_get names n ≡ Some t → v ≡ is_variable t → f ≡ is_name t
     → ((k : ℕ) → new.vars k ≡ ((v && (k == n)) || old.vars k)) → ((k : ℕ) → new.functions k ≡ ((f && (k == n)) || old.functions k)) → IsWritten names old → IsWritten names new
 written_more names old new n t v f at is_v is_f vars functions w = record {
@@ -103,7 +103,7 @@ written_more names old new n t v f at is_v is_f vars functions w = record {
     one k u is passes true false same was e = sym (same (same_text k u is (eqb-true k n (sym (or-false (k == n)) ∙ e))))
     one k u is passes false false same was e = absurd (true≢false (sym e))
 
--- all names that may stand
+-- all names that may be there
 
 pub has_more : (names : List Text) (old new : Sets) (n : ℕ) (t : Text) (v f : Bool) → slice_get names n ≡ Some t → v ≡ is_variable t → f ≡ is_name t
     → ((k : ℕ) → new.vars k ≡ ((v && (k == n)) || old.vars k)) → ((k : ℕ) → new.functions k ≡ ((f && (k == n)) || old.functions k)) → HasWritable names n old → HasWritable names (n + 1) new
@@ -123,7 +123,7 @@ has_more names old new n t v f at is_v is_f vars functions h = record {
           or_left (is_one && (k == n)) before (and_from is_one (k == n) (same (same_text k u is own) ∙ e) (eq-eqb k n own))
     ]
 
--- there are none behind the last name
+-- there are none after the last name
 pub has_all : (names : List Text) (most n : ℕ) (s : Sets) → min (length names) most ≤ n → HasWritable names n s → HasWritable names most s
 has_all names most n s all h = record {
   vars = λ k t low is e. h.vars k t (let l = slice_get_within names k t is in omega (arith, l, low, all)) is e;
@@ -265,7 +265,7 @@ module _ (names : List Text) (loops : List Bool) (m : ℕ) (old mid new : Certif
       some_facts : (x y : value.Facts) → Some x ≡ Some y → x ≡ y
       some_facts x y e = cc
 
--- Where nothing is lowered
+-- If nothing is lowered
 
 pub nothing_claimed : (c : Certificate) (p : Place) (o : Option value.Facts) → o ≡ kept_at c p → o ≡ None → (f : Facts) → claims c p ≡ Some f → ⊥
 unfolding claims

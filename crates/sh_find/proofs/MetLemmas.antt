@@ -1,4 +1,4 @@
--- What is asked at a command no certificate that keeps the rules breaks.
+-- What is required at a command no certificate that keeps the rules breaks.
 use Rattle.std.proofs.Common.{◌≡◌, Bool, true, List, [], ◌∷◌, ◌++◌, length, flat_map, fold, refl, sym, ap, ◌∙◌, subst, true≢false}
 use Rattle.std.specs.List.{list_all}
 use Rattle.std.proofs.lemmas.Bool.{and_parts}
@@ -45,7 +45,7 @@ use Rattle.sh_find.proofs.SheetLemmas.{placed}
 use Rattle.sh_find.proofs.StatedLemmas.{Left, asked_allowed, by_asked, each_if_passing, left_asks, not_true}
 use Rattle.sh_find.proofs.TurnLemmas.{bounded_quiet}
 
--- What is gathered of all that is asked
+-- What is gathered of all that is required
 
 module _ (s : Subject) (c : kept.Certificate) where
   asks_numbered : (qs : List Ask) (g : Gathered) → AreNumbers (length s.names.now) g → AreNumbers (length s.names.now) (fold (ask gathering (setting_by s c)) g qs)
@@ -103,7 +103,7 @@ module _ (s : Subject) (admitted : IsAdmitted s.script.now s.policy.now s.tree.n
   abbrev pub stated : Bool
   stated = s.stated
 
-  -- a constraint is kept, if it is asked
+  -- a constraint is kept, if it is required
   abbrev pub KeptIfAsked : Sheet → Constraint → Type 0
   KeptIfAsked other k = is_asked stated k ≡ true → broken (start_of s) (claims_in s.script.now s.tree.now other) k ≡ []
 
@@ -133,7 +133,7 @@ module _ (s : Subject) (admitted : IsAdmitted s.script.now s.policy.now s.tree.n
     keeps_here other keeps =
         (each_parts (KeepsAsked other) es part.back (each_parts (KeepsAsked other) part.front (es ++ part.back) (subst (Each (KeepsAsked other)) part.whole (all_kept other keeps))).1).0
 
-  -- one command by itself, whatever is done with what it asks
+  -- one command by itself, whatever is done with what it requires
 
   module _ {K : Type 0} (a : Asking K) (e : Entered) (part : IsPart s (e ∷ [])) (c : kept.Certificate) (by : ByConstraints K a (setting_by s c) (start_of s)) (k : Facts) (old : K) where
     abbrev asking : Asking K

@@ -1,4 +1,5 @@
--- Where not all is kept, a constraint is broken at the place or the function that is sought, or at those that are next.
+-- If not all is kept, a constraint is broken at the place or the function that is sought, or at
+-- those that are next.
 use Rattle.std.proofs.Common.{◌≡◌, ℕ, ◌<◌, ◌≤◌, Bool, true, false, ◌&&◌, ◌||◌, Option, Some, None, option_map, is_some, unwrap_or, List, [], ◌∷◌, length, slice_get, refl, sym, ap, ◌∙◌, subst, arith, inl, inr, ◌⊎◌, true≢false, eq-eqb}
 use Rattle.std.specs.Prelude.{option_and_then}
 use Rattle.std.proofs.lemmas.Bool.{cases_Bool, lt-ltb}
@@ -53,7 +54,7 @@ module _ (functions : List Text) (d : Facts) (c : Certificate) (p : Place) (i : 
   unfolding Each
   first_kept k ks all s = all.0.kept s
 
-  -- none is where each one that asks something there is kept
+  -- none is, if each one that requires something there is kept
   pub none_broken : (ks : List Constraint) → Each (IsKeptAt functions d c p i) ks → BrokenAt functions d c ks p i → ⊥
   none_broken ks all b =
       b.breaks (first_kept b.constraint b.back (each_parts (IsKeptAt functions d c p i) b.front (b.constraint ∷ b.back) (subst (Each (IsKeptAt functions d c p i)) b.one all)).1 b.there)
@@ -80,7 +81,7 @@ own_number : (i : ℕ) → is_number (Some i) i ≡ true
 unfolding is_number
 own_number i = eq-eqb i i refl
 
--- a constraint asks something of a place, or of a function, of an index that may be
+-- a constraint requires something of a place, or of a function, of an index that may be
 unfoldable pub AsksFitting : List Text → Constraint → Type 0
 AsksFitting functions (Within slot n rule v) = (p : Place) × (place_of functions slot ≡ Some p) × (p.index < 65536)
 AsksFitting functions (Counted f n loss) = (i : ℕ) × (number_of functions f ≡ Some i) × (i < 65536)
@@ -238,7 +239,7 @@ module _ (names : List Text) (loops : List Bool) (functions : List Text) (c : ke
   fitting_there (Within slot n rule v ∷ ks) h = ((h.0.place, h.0.at, place_low h.0.place h.0.there), fitting_there ks h.1)
   fitting_there (Counted f n loss ∷ ks) h = ((h.0.index, h.0.at, index_low h.0.index h.0.there), fitting_there ks h.1)
 
--- each constraint of a script that is admitted asks something of an index that may be
+-- each constraint of a script that is admitted requires something of an index that may be
 all_of_script : (b : List ℕ) (d : Declared) (t : Script) (names : List Text) (loops : List Bool) (c : kept.Certificate) → IsAdmitted b d t names → AreLoops t loops
     → IsWorking names loops (length (functions_in b t)) c → Each (AsksFitting (functions_in b t)) (script_bounds (script_of b t))
 all_of_script b d t names loops c a are w =

@@ -1,4 +1,5 @@
--- Where a sweep is in a command, by where it is before it: a lemma for each kind of command (XCU 2.9).
+-- Where a sweep is in a command, by where it is before it: a lemma for each kind of command (XCU
+-- 2.9).
 use Rattle.std.proofs.Common.{◌≡◌, ℕ, suc, ◌+◌, ◌-◌, ◌<◌, ◌≤◌, Bool, true, false, Option, Some, List, [], ◌∷◌, ◌++◌, append_assoc, append-nil, drop, get_or, length, nat_lt, refl, sym, ap, ◌∙◌, subst, take, arith}
 use Rattle.std.proofs.lemmas.Bool.Decides.{nat_tests}
 use Rattle.std.proofs.lemmas.List.{drop-drop, take-append-drop}
@@ -43,7 +44,7 @@ use Rattle.sh_find.specs.Starts.{start_of}
 use Rattle.sh_find.proofs.SweepLemmas.{first_part, knows_follow, last_part, stands_of}
 
 module _ (s : Subject) where
-  -- A command, and what stands in it
+  -- A command, and what is in it
 
   pub own_of : (by : FlowRule) (y : Around) (q : Seen) (m : p.Command) → IsPart s (e.command_entered by y q m) → IsPart s (record { command = m; rule = by; around = y; seen = q } ∷ [])
   unfolding e.items_entered
@@ -64,7 +65,7 @@ module _ (s : Subject) where
   inside_placed by y k c in_it =
       inside_part by y in_it.seen _ _ _ _ (subst (λ m. IsPart s (e.command_entered by y in_it.seen m)) (rules.command_of-out s.script.now c) in_it.part)
 
-  -- a definition, and what stands in it
+  -- a definition, and what is in it
   pub defined_placed : (by : FlowRule) (y : Around) (q : Seen) (c : Command) (v : Kind) (name : p.Text) (body : p.Command) → (out-Command c).kind ≡ v → trees.kind_of s.script.now v ≡ p.Define name body
       → IsPart s (e.command_entered by y q (trees.command_of s.script.now c))
       → IsPart s (e.command_entered by y q (p.command (out-Command c).number (out-Command c).at (p.Define name body) (redirects_from s.script.now (out-Command c).redirects)))
@@ -262,7 +263,7 @@ module _ (s : Subject) where
   begun_at y k at by t is rule known same in_it =
       subst (AreItems s at.by y (known_behind s at.behind)) (sym same) (subst (λ f. AreItems s f y (known_behind s at.behind) (out-Script t).items) (sym rule) (list_at by y k (known_behind s at.behind) t known in_it))
 
-  -- what is known behind it
+  -- what is known after it
   pub known_after : (k : Facts) (at after : Course) (t : Script) (is : List Item) → known_behind s at.behind ≡ both k → is ≡ (out-Script t).items
       → ((o : After) → KnowsBehind s o (known_behind s at.behind) → KnowsBehind s (e.items_after o (items_from s.script.now is)) (known_behind s after.behind))
       → (q : Seen) → Knows s q k → KnowsBehind s (e.items_after (Both q) (script_of s.script.now t)) (known_behind s after.behind)
@@ -290,7 +291,7 @@ module _ (s : Subject) where
         knows = passed.behind here.seen here.knows;
       })
 
-  -- behind some of them
+  -- after some of them
 
   items_rest : (by : FlowRule) (y : Around) (o : After) (i : Item) (is js : List Item) → IsPart s (e.items_entered by y o (items_from s.script.now (i ∷ (is ++ js))))
       → IsPart s (e.items_entered F2 y (e.items_after o (items_from s.script.now (i ∷ is))) (items_from s.script.now js))
@@ -435,7 +436,7 @@ piece_before xs i j before =
     ap (λ ys. take (j - i) (drop i xs) ++ ys) (ap (λ k. drop k xs) (sym sum) ∙ sym (drop-drop (j - i) i xs)) ∙ take-append-drop (j - i) (drop i xs)
 
 module _ (s : Subject) where
-  -- the list from a place on, behind the items before the next one
+  -- the list from a place on, after the items before the next one
   behind_piece : {A : Type 0} (xs : List A) (i j : ℕ) (x : A) → i ≤ j → j < length xs → x ≡ get_or xs j x → drop i xs ≡ take (j - i) (drop i xs) ++ (x ∷ drop (j + 1) xs)
   behind_piece xs i j x before low is = sym (piece_before xs i j before) ∙ ap (λ ys. take (j - i) (drop i xs) ++ ys) (at_index xs j x low is)
 

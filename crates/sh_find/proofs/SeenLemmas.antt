@@ -1,4 +1,4 @@
--- What is seen at a command of a script is seen behind steps that define no function without a name.
+-- What is seen at a command of a script is seen after steps that define no function without a name.
 use Rattle.std.proofs.Common.{◌≡◌, ℕ, Bool, true, false, if◌then◌else◌, List, [], ◌∷◌, ◌++◌, refl, ◌∙◌}
 use Rattle.std.specs.List.{list_all}
 use Rattle.std.proofs.lemmas.Bool.{and_from, and_parts}

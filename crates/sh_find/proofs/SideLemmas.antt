@@ -1,4 +1,5 @@
--- What is gathered of two places in one visit is numbered, and stands for each certificate that keeps the rules.
+-- What is gathered of two places in one visit is numbered, and holds for each certificate that
+-- keeps the rules.
 use Rattle.std.proofs.Common.{◌≡◌, ℕ, Bool, true, false, if◌then◌else◌, Option, None, Some, List, [], ◌∷◌, length, fold, refl, sym, ap, ap₂, ◌∙◌, subst, true≢false}
 use Rattle.std.proofs.lemmas.Bool.{false_from_ne_true}
 use Rattle.std.proofs.lemmas.List.Sums.{fold-append}
@@ -70,7 +71,7 @@ module _ (names functions : List Text) where
   unfolding counted counted_of
   side_counted f may lost g mid p h is = ap (λ (m : Gathered). with_beside m p h) is
 
--- Nothing was asked
+-- Nothing was required
 
 module _ (target : Target) (g : Gather) (new : IsNew target g) (p : Place) where
   abbrev begun : Sides
@@ -97,7 +98,7 @@ module _ (target : Target) (g : Gather) (new : IsNew target g) (p : Place) where
       let one = new_quiet target g new in
       record { first = record { known = one.known; vars = one.vars; functions = one.functions }; second = record { known = λ e. refl; vars = one.vars; functions = one.functions } }
 
--- What is gathered goes by constraints
+-- What is gathered follows the constraints
 
 module _ (names functions : List Text) (d : Facts) (c : Certificate) where
   unfoldable one : Sided → Constraint → Sided
@@ -136,7 +137,7 @@ sides_by x d h = record {
   counted = λ f n l g. refl;
 }
 
--- All that is asked
+-- All that is required
 
 module _ (s : Subject) (c : kept.Certificate) where
   abbrev functions : List Text

@@ -1,4 +1,4 @@
--- What is asked if claims are stated.
+-- What is required if claims are stated.
 use Rattle.std.proofs.Common.{◌≡◌, ℕ, cond, Bool, true, false, not, if◌then◌else◌, List, [], ◌∷◌, ◌++◌, filter, fold, refl, sym, ap, ◌∙◌, subst, true≢false}
 use Rattle.std.specs.List.{list_all}
 use Rattle.std.proofs.lemmas.Bool.{and_parts}
@@ -85,12 +85,12 @@ all_of slot n rule [] e = refl
 all_of slot n rule (v ∷ s) e =
     ap (λ b. cond (not b) (Within slot n rule v ∷ asked_bounds true (bound slot n rule s)) (asked_bounds true (bound slot n rule s))) e ∙ ap (λ ls. Within slot n rule v ∷ ls) (all_of slot n rule s e)
 
--- something that is asked, of which this holds
+-- something that is required, for which this holds
 abbrev pub Left : Bool → (Ask → Type 0) → Ask → Type 0
 Left stated Q q = (is_asked_of stated q ≡ true) × Q q
 
 module _ {K : Type 0} (a : Asking K) (x : Setting) where
-  -- what is done with what is asked goes by the constraints that are asked
+  -- what is done with what is required follows the constraints that are required
   pub by_asked : (stated : Bool) (d : Facts) → ByConstraints K a x d → ByConstraints K (asking_by stated a) x d
   unfolding asking_by is_asked
   by_asked false d i = record {
@@ -119,7 +119,7 @@ module _ {K : Type 0} (a : Asking K) (x : Setting) where
   asked_all false d i g ks = refl
   asked_all true d i g ks = refl
 
-  -- What is done with what is asked is done with what is left of it
+  -- What is done with what is required is done with what is left of it
 
   one_left : (stated : Bool) (q : Ask) (g : K) → ask (asking_by stated a) x g q ≡ cond (is_asked_of stated q) (ask a x g q) g
   unfolding ask asking_by is_asked_of is_free
@@ -160,7 +160,7 @@ module _ {K : Type 0} (a : Asking K) (x : Setting) where
     reached = s.reached ∙ all_left stated s.asks first;
   }
 
--- What a certificate below allows, of what is asked
+-- What a certificate below allows, of what is required
 
 module _ (x : Setting) (h : AreNumbered x.names) (d : Facts) (c : Certificate) (below : IsBelow c (certificate x)) (stated : Bool) where
   abbrev pub Unbroken : Constraint → Type 0

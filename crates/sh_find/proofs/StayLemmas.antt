@@ -1,4 +1,5 @@
--- Where nothing is lowered at a place and a function, none of the flow rules of the script is broken there.
+-- If nothing is lowered at a place and a function, none of the flow rules of the script is broken
+-- there.
 use Rattle.std.proofs.Common.{◌≡◌, true, List, ap, ◌∙◌, subst}
 use Rattle.std.specs.List.{list_all}
 use Rattle.sh_tree.specs.standard.program.Trees.{script_of}

@@ -74,7 +74,7 @@ module _ (s : Subject) where
   pub names_numbered : (c : kept.Certificate) (n : ℕ) → IsReady s c n → AreNumbered s.names.now
   names_numbered c n r = numbered s.script.now s.policy.now s.tree.now s.names.now r.admitted
 
-  -- Commands that stand together
+  -- Commands that are together
 
   pub first_part : (es fs : List Entered) → IsPart s (es ++ fs) → IsPart s es
   first_part es fs q = record { front = q.front; back = fs ++ q.back; whole = q.whole ∙ ap (λ gs. q.front ++ gs) (append_assoc es fs q.back) }
@@ -99,7 +99,7 @@ module _ (s : Subject) where
     nothing = λ other keeps. (above (setting_by s c) h (start_of s) (claims_in s.script.now s.tree.now other) (over other keeps)).nothing;
   }
 
-  -- behind a list
+  -- after a list
   pub stands_of : (o : After) (b : Behind) → KnowsBehind s o b → led.Stands (Knows s) o b
   stands_of o b k = record { zero = λ other keeps. (k other keeps).zero; nonzero = λ other keeps. (k other keeps).nonzero }
 
@@ -134,7 +134,7 @@ module _ (s : Subject) where
   pub turned_none : (c : kept.Certificate) (n : ℕ) → IsReady s c n → IsTurned c c n false
   turned_none c n r = record { working = λ loops m w. w; over = r.over; stays = λ e. stays_none c; probe = r.probe; rules = λ e. absurd (true≢false (sym e)) }
 
-  -- a turn behind a sweep lowers
+  -- a turn after a sweep lowers
   pub swept_less : (loops : List Bool) (m : ℕ) (old mid new : kept.Certificate) (n : ℕ) (done : Bool) → IsWorking s.names.now loops m old → IsSwept s old mid n → Turns loops m mid new done
       → done ≡ false → height (length s.names.now) (length loops) m new < height (length s.names.now) (length loops) m old
   swept_less loops m old mid new n done working w t e = let l = t.less e in let k = w.no_more loops m working in omega (arith, l, k)
@@ -142,7 +142,7 @@ module _ (s : Subject) where
   pub settled : (loops : List Bool) (m : ℕ) (old new : kept.Certificate) (n : ℕ) (done : Bool) → done ≡ true → IsTurned old new n done → IsWorking s.names.now loops m old → IsSettled s loops m old new
   settled loops m old new n done e t w = record { working = t.working loops m w; rules = t.rules e; over = t.over; stays = t.stays }
 
--- What a walk by the table of the script goes by
+-- What a walk by the table of the script uses
 
 pub setting_is : (c : Claims) (t : Script) → c.calls.now ≡ table_of c.script.now t
     → setting c ≡ record { script = c.script.now; names = c.names.now; functions = functions_in c.script.now t; rows = (table_of c.script.now t).rows; kept = c.certificate.now }

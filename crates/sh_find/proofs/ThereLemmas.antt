@@ -1,4 +1,4 @@
--- The flow rules ask of nothing but the commands, the loops and the functions of the script.
+-- The flow rules speak of nothing but the commands, the loops and the functions of the script.
 use Rattle.std.proofs.Common.{◌≡◌, ℕ, zero, suc, ◌-◌, ◌<◌, ◌==◌, arith, is_some, option_map, nat_le, nat_lt, Bool, true, false, not, ◌&&◌, if◌then◌else◌, List, [], ◌∷◌, ◌++◌, map, flat_map, length, slice_get, unwrap_or, Option, Some, None, refl, sym, ap, ◌∙◌, subst, true≢false}
 use Rattle.std.specs.List.{cons_option, filter_map, list_all}
 use Rattle.std.specs.Str.{bytes_eq}
@@ -58,7 +58,7 @@ module _ (loops : List Bool) (functions : List Text) where
   slot_there (ReturnsZero f) = is_one_of functions f
   slot_there (ReturnsNonzero f) = is_one_of functions f
 
-  -- what it asks of is there
+  -- what it speaks of is there
   asks_there : Constraint → Bool
   asks_there (Within slot n rule v) = slot_there slot
   asks_there (Counted function n loss) = is_one_of functions function

@@ -1,4 +1,5 @@
--- What is gathered goes by constraints: several views at a place ask what is known there, and names together what they ask one after the other.
+-- What is gathered follows the constraints: several views at a place require what is known there,
+-- and names together what they require one after the other.
 use Rattle.std.proofs.Common.{◌≡◌, ℕ, Bool, true, false, ◌&&◌, ◌||◌, if◌then◌else◌, min, List, [], ◌∷◌, ◌++◌, refl, sym, ap, ap₂, ◌∙◌, arith}
 use Rattle.std.specs.Prelude.{option_and_then}
 use Rattle.std.proofs.Math.Path.{fun_ext}
@@ -36,7 +37,7 @@ module _ (names functions : List Text) where
       let h = and_parts (within c f) (within c g) e in
       (within_test c (meet f g)).1 (meet_greatest f g (facts c) ((within_test c f).0 h.0) ((within_test c g).0 h.1)))
 
-  -- a claim of numbered names is within what is known of these where it is within what is known
+  -- a claim of numbered names is within what is known of these if it is within what is known
   within_same : (c : Claim) (f : Facts) → claim_fits names c ≡ true → within c (among names f) ≡ within c f
   within_same c f fit = same_tests _ _
       (λ e. (within_test c f).1 (within_through _ _ _ ((within_test c (among names f)).0 e) (among_less names f)))

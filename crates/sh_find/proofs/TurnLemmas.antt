@@ -81,7 +81,7 @@ module _ (target : Target) (g : Gather) (new : IsNew target g) where
 
 -- Claims that are stated
 
--- stay where no other claim is lowered
+-- stay if no other claim is lowered
 pub lowered_stays : (old new : kept.Certificate) (p : Place) (known : number.Facts) (changed : Bool) → IsLowered old new p known changed → (is_stated_part p.part ≡ true → known ≡ number.NotReached) → StatedStays old new
 unfolding number.claims
 lowered_stays old new p known false l quiet = record { claims = λ q e. ap (λ c. claims c q) (l.stays refl); drops = λ i. l.drops i }
@@ -107,7 +107,7 @@ counted_stays old new i sets true c vars functions = absurd (never (dropped old 
     never None is there = true≢false (sym there)
     never (Some s) is there = c.fails refl s is (record { vars = λ k e. absurd (true≢false (sym e ∙ vars k)); functions = λ k e. absurd (true≢false (sym e ∙ functions k)) })
 
--- nothing is gathered of them where nothing is asked of them
+-- nothing is gathered of them if nothing is required of them
 of_function : (part : Part) {b : Bool} → is_stated_part part ≡ b → (p : Place) (o : Option ℕ) → is_at (option_map (at part) o) p ≡ true → is_stated_part p.part ≡ b
 unfolding is_at
 of_function part is p None e = absurd (true≢false (sym e))

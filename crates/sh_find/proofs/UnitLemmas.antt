@@ -1,6 +1,8 @@
--- Each command of a script that is read stands somewhere in it, so the body of a definition is entered by its number (XCU 2.9.5).
+-- Each command of a script that is read is somewhere in it, so the body of a definition is entered
+-- by its number (XCU 2.9.5).
 --
--- The delimiters of here-documents are left out of what is entered. So commands are found by number: each stands as often in the tree as in its program.
+-- No delimiter of a here-document is entered. So commands are found by number: each occurs as often
+-- in the tree as in its program.
 use Rattle.std.proofs.Common.{◌≡◌, ℕ, ◌+◌, ◌<◌, ◌≤◌, ◌==◌, cond, nat_le, Bool, true, false, List, [], ◌∷◌, ◌++◌, append-nil, map, length, get_or, refl, sym, ap, ◌∙◌, subst, ◌⊎◌, inl, inr, arith, eq-eqb}
 use Rattle.std.specs.List.{All, sum_by}
 use Rattle.std.specs.List.Sorted.{IsPermutation}
@@ -89,7 +91,7 @@ counted n c (x ∷ cs) (inr h) e =
     let rest = counted n c cs h e in
     omega (arith, here, rest)
 
--- where a number stands once, one command has it
+-- if a number occurs once, one command has it
 only_one : (n : ℕ) (c d : Command) (cs : List Command) → times n cs ≤ 1 → IsOf c cs → IsOf d cs → (out-Command c).number ≡ n → (out-Command d).number ≡ n → d ≡ c
 only_one n c d [] few h k e f = absurd h
 only_one n c d (x ∷ cs) few (inl h) (inl k) e f = sym k ∙ h
@@ -110,7 +112,7 @@ only_one n c d (x ∷ cs) few (inr h) (inr k) e f =
 unfoldable number_in : p.Command → ℕ
 number_in (p.command n at k rs) = n
 
--- Where a command stands
+-- Where a command is
 
 module _ (s : Subject) where
   abbrev b : List ℕ
@@ -123,7 +125,7 @@ module _ (s : Subject) where
     pub part : IsPart s (e.command_entered by around seen (trees.command_of b c))
 
   module _ (n : ℕ) (some : 0 < n) where
-    -- a command of a list that has the number, and stands in the script
+    -- a command of a list that has the number, and is in the script
     record Found (cs : List Command) : Type 0 where
       command : Command
       of : IsOf command cs
@@ -328,7 +330,7 @@ module _ (s : Subject) where
       expression_sought q (Assign' name operator shape z) part = box_sought q z part
       expression_sought q _ part = none
 
-  -- in a script that is admitted each stands somewhere
+  -- in a script that is admitted each is somewhere
   module _ (admitted : IsAdmitted b s.policy.now s.tree.now s.names.now) where
     abbrev program : List Located
     program = items_located outside (trees.script_of b s.tree.now)

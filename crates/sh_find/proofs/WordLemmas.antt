@@ -1,4 +1,5 @@
--- Where a sweep is in words, by where it is before them: a lemma for each kind of element, part and expression (XCU 2.6, 2.9.1).
+-- Where a sweep is in words, by where it is before them: a lemma for each kind of element, part and
+-- expression (XCU 2.6, 2.9.1).
 use Rattle.std.proofs.Common.{◌≡◌, ℕ, Bool, true, Result, Ok, Err, IfOk, List, [], ◌∷◌, ◌++◌, refl, sym, ap, ◌∙◌, subst}
 use Rattle.sh_tree.specs.declared.tree.Action.{Action}
 use Rattle.sh_tree.specs.declared.tree.Action.TheVariants as action
@@ -36,7 +37,7 @@ use Rattle.sh_find.specs.declared.subject.Subject.{Subject}
 use Rattle.sh_find.specs.Sweeps.{AreClauses, AreElements, Gained, IsIn, IsInside, IsKind, IsList, IsOver, IsPart, IsWord, Knows, setting_by}
 use Rattle.sh_find.proofs.SweepLemmas.{first_part, knows_follow, last_part}
 
--- behind a call whose result is returned
+-- after a call whose result is returned
 pub if_ok : {T E : Type 0} (r : Result T E) (P Q : T → Type 0) → ((x : T) → P x → Q x) → IfOk r P → IfOk r Q
 if_ok (Ok x) P Q f h = f x h
 if_ok (Err e) P Q f h = tt
@@ -46,7 +47,7 @@ module _ (s : Subject) where
   pub gained_nowhere : (g : Gains) (k : Facts) → Gained s g k NotReached
   gained_nowhere g k q knows other keeps = within_nowhere _
 
-  -- What stands in a command
+  -- What is in a command
 
   pub redirections_placed : (y : Around) (c : Command) → IsInside s y c → IsPart s (e.redirects_entered (at (Before (out-Command c).number)) (redirects_from s.script.now (out-Command c).redirects))
   redirections_placed y c here = first_part s _ _ here
@@ -75,7 +76,7 @@ module _ (s : Subject) where
   unfolding e.items_entered
   listed_placed k ws here = record { seen = here.seen; part = here.part; knows = here.knows }
 
-  -- the word of a `case`, and its clauses behind it
+  -- the word of a `case`, and its clauses after it
   pub case_word : (y : Around) (k : Facts) (w : p.Word) (cs : p.Clauses) → IsIn s (λ q. e.word_entered q w ++ e.clauses_entered y (gaining (word_gains w) q) [] cs) k → IsWord s k w
   case_word y k w cs here = record { seen = here.seen; part = first_part s (e.word_entered here.seen w) _ here.part; knows = here.knows }
 
@@ -340,7 +341,7 @@ module _ (s : Subject) where
     knows = behind here.seen here.knows;
   }
 
-  -- What is known behind the pieces so far, and what the rest leaves behind all of them
+  -- What is known after the pieces so far, and what the rest leaves after all of them
 
   pub record Along (q : Seen) (k : Facts) (all rest : Gains) : Type 0 where
     pub seen : Seen
@@ -409,7 +410,7 @@ module _ (s : Subject) where
         → Gained s (expanded_gains (trees.expression_of s.script.now x)) k k
     literal_gained k x v program is same none = expression_gained k k x v program is same (nothing_gained k (expanded_gains program) none)
 
-    -- in the word behind an operator
+    -- in the word after an operator
     operand_known : (a : Action) (v : p.Parameter) (k : Facts) (q : Seen) → Knows s q k → Knows s (e.operand_seen a v q) (gained (setting_by s c) (inner_gains v a) k)
     unfolding inner_gains e.operand_seen
     operand_known action.Alternative v k q w = follows.gain (sure v) q k w

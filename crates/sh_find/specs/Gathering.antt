@@ -21,7 +21,7 @@ use Rattle.sh_find.specs.Working.{Sets, joined}
 
 -- Clauses of private functions
 
--- something more is asked of a place, or of a function, which is kept or not
+-- something more is required of a place, or of a function, which is kept or not
 abbrev pub tested_at : Option Place → Bool → Gathered → Gathered
 tested_at o kept g = record g { kept = g.kept && kept; next_place = next_place_of o kept g }
 
@@ -36,7 +36,7 @@ met f g = record g { known = number.meet g.known f }
 abbrev pub with_sets : Sets → Gathered → Gathered
 with_sets z g = record g { sets = joined z g.sets }
 
--- Things that are asked together
+-- Things that are required together
 
 pub and_over : (a b c : Bool) → ((a && b) && c) ≡ (a && (b && c))
 and_over true b c = refl

@@ -21,16 +21,16 @@ use Rattle.sh_find.specs.Turns.{sheet_by}
 use Rattle.sh_find.specs.Working.{IsWorking}
 use Rattle.sh_find.specs.Starts.{start_of}
 
--- a constraint asks something of the place, or of the function of the index
+-- a constraint requires something of the place, or of the function of the index
 unfoldable pub stands_at : List Text → Place → ℕ → Constraint → Bool
 stands_at functions p i (Within slot n rule v) = is_at (place_of functions slot) p
 stands_at functions p i (Counted function n loss) = is_number (number_of functions function) i
 
--- it is kept, if it asks something there
+-- it is kept, if it requires something there
 pub record IsKeptAt (functions : List Text) (start : Facts) (c : Certificate) (p : Place) (i : ℕ) (k : Constraint) : Type 0 where
   pub kept : stands_at functions p i k ≡ true → broken start c k ≡ []
 
--- one of the constraints asks something there, and is broken
+-- one of the constraints requires something there, and is broken
 pub record BrokenAt (functions : List Text) (start : Facts) (c : Certificate) (ks : List Constraint) (p : Place) (i : ℕ) : Type 0 where
   pub constraint : Constraint
   pub front : List Constraint
@@ -47,7 +47,7 @@ module _ (s : Subject) where
     pub are_loops : AreLoops s.tree.now loops
     pub working : IsWorking s.names.now loops (length (functions_in s.script.now s.tree.now)) c
 
-  -- it breaks a flow rule that asks something of the place or of the function
+  -- it breaks a flow rule that requires something of the place or of the function
   abbrev pub IsBroken : kept.Certificate → Target → Type 0
   IsBroken c target =
       BrokenAt (functions_in s.script.now s.tree.now) (start_of s) (claims_in s.script.now s.tree.now (sheet_by s.names.now c)) (asked_bounds s.stated (script_bounds (script_of s.script.now s.tree.now))) target.place target.function

@@ -10,7 +10,7 @@ use Rattle.sh_domain.specs.Operands.{Names, no_names}
 use Rattle.sh_find.specs.Facts as number
 use Rattle.sh_find.specs.Working.{Sets}
 
--- the test of a name, which fails where there is none
+-- the test of a name, which fails if there is none
 unfoldable pub name_passes : (Text → Bool) → Option Text → Bool
 name_passes v None = false
 name_passes v (Some t) = v t
@@ -27,7 +27,7 @@ by_name names (number.Known v f a) = Known (λ t. at_number v (number_of names t
 abbrev pub numbers_in : List Text → Names → Sets
 numbers_in names d = record { vars = λ k. name_passes (is_one_of d.vars) (slice_get names k); functions = λ k. name_passes (is_one_of d.functions) (slice_get names k) }
 
--- no run comes where nothing is kept
+-- no run comes there if nothing is kept
 unfoldable pub named : List Text → Option number.Facts → Facts
 named names None = NotReached
 named names (Some f) = by_name names f

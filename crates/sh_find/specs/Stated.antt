@@ -18,7 +18,7 @@ unfoldable pub is_free : Bool → Slot → Bool
 is_free false slot = true
 is_free true slot = not (is_stated slot)
 
--- if claims are stated, nothing is asked of them, nor of what functions drop
+-- if claims are stated, nothing is required of them, nor of what functions drop
 unfoldable pub is_asked : Bool → Constraint → Bool
 is_asked stated (Within slot n rule v) = is_free stated slot
 is_asked stated (Counted function n loss) = not stated

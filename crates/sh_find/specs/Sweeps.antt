@@ -56,11 +56,12 @@ module _ (s : Subject) where
 
   -- What a certificate stays above
 
-  -- the constraints that are asked
+  -- the constraints that are required
   abbrev pub asked_of : List Constraint
   asked_of = asked_bounds s.stated (script_bounds (script_of s.script.now s.tree.now))
 
-  -- a sheet of names of the script that claims what is stated, and keeps all rules that are asked
+  -- a sheet of names of the script that claims what is stated, and keeps all rules that are
+  -- required
   pub record Keeps (other : Sheet) : Type 0 where
     pub fit : (o : Option Place) → claim_fits s.names.now (claim_there other o) ≡ true
     pub stated : ClaimsStated s.names.now (functions_in s.script.now s.tree.now) s.stated s.compact.now (claims_in s.script.now s.tree.now other)
@@ -85,7 +86,7 @@ module _ (s : Subject) where
 
   -- Where a sweep is
 
-  -- commands that stand together in the script, as they are entered
+  -- commands that are together in the script, as they are entered
   pub record IsPart (es : List Entered) : Type 0 where
     pub front : List Entered
     pub back : List Entered
@@ -200,7 +201,7 @@ module _ (s : Subject) where
     pub stays : s.stated ≡ true → StatedStays old new
     pub probe : probed ≡ length s.names.now
 
-  -- it keeps all rules that are asked, claims what was stated, and stays above each certificate
+  -- it keeps all rules that are required, claims what was stated, and stays above each certificate
   -- that does
   pub record IsSettled (loops : List Bool) (m : ℕ) (old new : kept.Certificate) : Type 0 where
     pub working : IsWorking s.names.now loops m new

@@ -13,9 +13,9 @@ use Rattle.sh_domain.specs.Rules.{Constraint, bound}
 use Rattle.sh_domain.specs.Views.{Certificate, Slot, Seen}
 use Rattle.sh_find.specs.Gathered.{Gathered, bounded, counted, all_gathered}
 
--- No names require nothing, and names together require what they require one after the other.
+-- Without names nothing is required. Names together require what they require one after the other.
 -- Several views at a place require what is known of the numbered names where all are seen. Lists of
--- constraints require it one after the other.
+-- constraints follow one after the other.
 pub record GatheredTogether : Type 0 where
   pub nothing : (names functions : List Text) (f : Text) (may : Names) (g : Gathered) → counted names functions f may no_names g ≡ g
   pub names : (names functions : List Text) (f : Text) (may a b : Names) (g : Gathered)

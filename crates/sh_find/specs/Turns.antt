@@ -37,7 +37,7 @@ gathered_of g = record {
   next_function = g.next.function;
 }
 
--- nothing was asked
+-- nothing was required
 pub record IsNew (target : Target) (g : Gather) : Type 0 where
   pub kept : g.kept ≡ true
   pub at : g.target ≡ target

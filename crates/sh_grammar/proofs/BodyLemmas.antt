@@ -1,4 +1,5 @@
--- The bytes are read in the same way, up to the same state, whatever the bodies of the level's here-documents are.
+-- The bytes are read in the same way, up to the same state, whatever the bodies of the level's
+-- here-documents are.
 use Rattle.std.proofs.Common.{◌≡◌, ℕ, ◌+◌, false, List, [], ◌∷◌, Option, None, refl, subst}
 use Rattle.sh_tree.specs.declared.token.command.Lead.{Lead}
 use Rattle.sh_tree.specs.declared.token.command.Stage.{Stage}

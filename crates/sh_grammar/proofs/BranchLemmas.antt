@@ -44,7 +44,7 @@ module _ (b : List ℕ) (s : State) where
           (p.0, l.5 ∙ ap (λ y. branch y l.2) o.1 ∙ ap (λ y. branch c y) p.1);
     }
 
--- What stands behind the last branch
+-- What follows the last branch
 
 fi_of : {limit : ℕ} {b : List ℕ} {body : ℕ → Document} {s v : states.State} {bs : List Branch} {o : Option Script} → (lead_here b s ≡ lead.Reserved word.Elif → ⊥)
     → (lead_here b s ≡ lead.Reserved word.Else → ⊥) → ReadsElse limit b body s v bs o
@@ -70,7 +70,7 @@ elif_of is (r.fi h) = cc
 elif_of is (r.otherwise h l e) = cc
 elif_of is (r.elif h l) = l
 
--- no branch comes where no `elif` stands
+-- no branch comes where there is no `elif`
 ended_of : {limit : ℕ} {b : List ℕ} {body : ℕ → Document} {s v : states.State} {bs : List Branch} {o : Option Script} → (lead_here b s ≡ lead.Reserved word.Elif → ⊥)
     → ReadsElse limit b body s v bs o → bs ≡ []
 ended_of more (r.fi h) = refl

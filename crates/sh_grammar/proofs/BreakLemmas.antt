@@ -1,4 +1,4 @@
--- Newlines between commands, and what stands behind blanks.
+-- Newlines between commands, and what follows blanks.
 use Rattle.std.proofs.Common.{◌≡◌, ℕ, Bool, suc, ◌+◌, ◌≤◌, true, false, not, List, [], ◌∷◌, length, drop, Some, None, Ok, refl, sym, ap, subst, ◌∙◌, ⊎_elim, le_refl, ◌<◌, arith}
 use Rattle.std.proofs.lemmas.Bool.{true≢false, cases_Bool, cond-true, cond-false, eqb-true}
 use Rattle.std.proofs.lemmas.List.{drop-drop}
@@ -25,7 +25,7 @@ use Rattle.sh_grammar.specs.declared.mark.Mark.{Mark}
 use Rattle.sh_grammar.proofs.ReaderLemmas.{refused_by}
 use Rattle.sh_grammar.proofs.StateLemmas.{are_later, before_later}
 
--- Behind blanks stand none
+-- After blanks there are none
 
 no_blanks : (joins : Bool) (cs : List ℕ) → gap_length cs ≡ 0 → is_comment joins cs ≡ false → blank_length joins cs ≡ 0
 unfolding blank_length
@@ -83,7 +83,7 @@ module _ (b : List ℕ) where
     λ limit k y l. let quiet : is_some s.outer ≡ true = ap is_some (sym is) in true≢false (sym quiet ∙ l.1),
   )
 
-  -- `first` is behind the newline at s, and the bodies lead from there to v
+  -- `first` is after the newline at s, and the bodies lead from there to v
   module _ (s first v : State) (out : None ≡ s.outer) (is : first ≡ record s { at = s.at + 1; pending = [] }) where
     -- where the line's bodies are read
     line_first : here first ≡ on_line (s.at + 1) (here s)
@@ -138,7 +138,7 @@ module _ (b : List ℕ) where
       stands = stands;
     }
 
--- Where states stand
+-- Where states are
 
 pub settled_stands : (b : List ℕ) (j : ℕ) (s : State) → Lies b s → j ≡ blanks s.joins b s.at → s.at ≤ j → j ≤ length b
     → Stands b (record s { at = j; fresh = true })
@@ -151,11 +151,11 @@ settled_stands b j s stands is after inside = record {
   behind = are_later s.at j s.pending after stands.behind;
 }
 
--- the operators of a line stand in the text
+-- the operators of a line are in the text
 pub line_marks : (b : List ℕ) (s : State) (ms : List Mark) → Stands b s → ms ≡ s.pending → AreBefore (length b) ms
 line_marks b s ms stands is = subst (AreBefore (length b)) (sym is) (are_later s.at (length b) s.pending stands.inside stands.behind)
 
--- behind a newline
+-- after a newline
 pub line_lies : (b : List ℕ) (s first : State) → Stands b s → s.at < length b → first ≡ record s { at = s.at + 1; pending = [] } → Lies b first
 line_lies b s first stands below is = subst (Lies b) (sym is) (record {
   inside = omega arith;

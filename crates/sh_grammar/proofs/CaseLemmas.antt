@@ -45,7 +45,7 @@ module _ (b : List ℕ) (s : State) where
 
 -- Patterns
 
--- what stands behind a pattern that ends at u
+-- what follows a pattern that ends at u
 abbrev BehindPattern : ℕ → List ℕ → states.State → states.State → List Word → Type 0
 BehindPattern limit b u v ws =
     ((lead_of b (Named false) u ≡ lead.Operator op.RightParenthesis) × (v ≡ u) × (ws ≡ []))
@@ -65,7 +65,7 @@ pub record PatternsFound (b : List ℕ) (s : State) (found : List Word) (v : Sta
 pub patterns_none : (b : List ℕ) (s : State) → PatternsFound b s [] s
 patterns_none b s = record { behind = nothing_yet (PatternsFrom b) s }
 
--- the word that comes first, up to its end, and what stands behind it
+-- the word that comes first, up to its end, and what follows it
 abbrev FirstPattern : ℕ → List ℕ → State → states.State → List Word → Type 0
 FirstPattern limit b s v ws =
     (t u : states.State) × (w : Word) × (others : List Word) × (ws ≡ w ∷ others) × UnsplitFrom b s limit t w × (t.spot.count ≤ v.spot.count)
@@ -86,7 +86,7 @@ module _ (b : List ℕ) (s next : State) (found : List Word) (h : PatternsFound 
       (refused_by b (UnsplitFrom b next) (PatternsFrom b next) e (λ limit k ws l. let f = first_pattern next l in (f.0, f.2, f.5, f.6)) none)
 
   module _ (w : Word) (u : State) (one : One (UnsplitFrom b next) (here u) w) where
-    -- what stands behind the pattern that was read
+    -- what follows the pattern that was read
     pattern_here : {limit : ℕ} {k : states.State} {ws : List Word} → PatternsFrom b next limit k ws
         → (v : states.State) × (others : List Word) × (ws ≡ w ∷ others) × BehindPattern limit b (here u) v others × (k ≡ skip b 1 v)
     pattern_here {limit = limit} l =
@@ -239,7 +239,7 @@ module _ (b : List ℕ) (s next : State) (found : List Clause) (h : ClausesFound
           let o = one.only limit f.0 f.1 f.2 in
           subst (λ c. ReadsClauseTail limit b unread c (here u) k cs) o.1 (subst (λ z. ReadsClauseTail limit b unread f.1 z k cs) o.0 f.4)
 
-      -- neither `esac` nor a mark stands behind the clause
+      -- neither `esac` nor a mark follows the clause
       pub clauses_wrong : clause_end_of (lead_at b First u.at) ≡ None → (lead_at b First u.at ≡ lead.Reserved word.Esac → ⊥) → Nothing (ClausesFrom b s)
       clauses_wrong none last limit k cs l =
           let f = h.behind.forth limit k cs l in
@@ -300,7 +300,7 @@ case_of l is (r.until_loop d h g) = cc
 case_of l is (r.for_loop d n h g) = cc
 case_of l is (r.case_of {p = p} {q = q} {v = w} {u = u} {w = x} {cs = cs} d i h k e g c) = (u, p, q, w, x, cs, i, h, k, e, g, c, refl, refl)
 
--- the word, up to its end, and what stands behind it
+-- the word, up to its end, and what follows it
 abbrev CaseWord : ℕ → List ℕ → State → states.State → Kind → Type 0
 CaseWord limit b s v k =
     (t p q w : states.State) × (x : Word) × (cs : List Clause) × UnsplitFrom b (entered b word.Case s) limit t x × ReadsBreaks limit b t p
@@ -337,7 +337,7 @@ module _ (b : List ℕ) (s : State) where
       (f.1, tt, subst (λ z. ReadsBreaks limit b z f.1) o.0 f.7, omega arith)) none
 
   module _ (x : Word) (u : State) (one : One (UnsplitFrom b (entered b word.Case s)) (here u) x) (p : State) (first : BreaksTo b u p) where
-    -- `in` stands behind the newlines, and then newlines and the clauses
+    -- `in` follows the newlines, and then come newlines and the clauses
     case_here : {limit : ℕ} {v : states.State} {k : Kind} → ReadsCompound limit b unread (lead.Reserved word.Case) (here s) v k
         → (lead_at b First p.at ≡ lead.Reserved word.In) × (q w : states.State) × (cs : List Clause) × ReadsBreaks limit b (behind_token b (codes "in") (here p)) q
         × ReadsClauses limit b unread q w cs × (v ≡ as_deep (here s) w) × (k ≡ kind.Branches x cs)

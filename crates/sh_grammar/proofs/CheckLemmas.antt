@@ -50,7 +50,7 @@ text_inside b t i e at is within =
     let below : at < length (text_of b (span i e)) = subst (λ x. at < length x) is within in
     omega (arith, length-take (e - i) (drop i b), length-drop i b)
 
--- behind a line continuation
+-- after a line continuation
 pub behind_joined : (b t : List ℕ) (i e at : ℕ) → t ≡ text_of b (span i e) → at + 1 < length t → e < length b → i + at + 2 < length b
 behind_joined b t i e at is within below =
     let inside : at + 1 < length (text_of b (span i e)) = subst (λ x. at + 1 < length x) is within in

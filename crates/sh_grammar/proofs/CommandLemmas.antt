@@ -85,7 +85,7 @@ simple_of some (r.simple_command {u = u} {es = es} h e) = (u, es, refl, refl, e)
 simple_of some (r.compound_command {l = l} is k q) = absurd (true≢false (sym some ∙ ap begins_simple is ∙ not_simple l (compound_begins k)))
 simple_of some (r.definition h o p k i c) = absurd (apart begins_simple h some refl)
 
--- behind one more command
+-- after one more command
 abbrev pub one_more_command : State → State
 one_more_command s = record s { count = s.count + 1 }
 

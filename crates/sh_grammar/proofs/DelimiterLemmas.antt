@@ -13,7 +13,7 @@ use Rattle.sh_tree.specs.declared.refusal.Refusal.TheVariants.{LeftOut}
 use Rattle.sh_grammar.specs.Delimiters.{DelimiterIn, delimiter_in}
 use Rattle.sh_grammar.specs.Readers.{Refused}
 
--- a newline stands in the word
+-- a newline is in the word
 pub delimiter_split : (b : List ℕ) (w : Word) → true ≡ list_any is_newline (text_of b w.span) → None ≡ delimiter_in b w
 unfolding is_delimiter
 delimiter_split b w line =
@@ -21,7 +21,7 @@ delimiter_split b w line =
     and_right (is_static (parts_text b w.parts) && not (list_any is_dollar_quoted w.parts)) _ (ap not (sym line)) in
     sym (cond-false _ _ _ none)
 
--- `$'` stands in it
+-- `$'` is in it
 pub delimiter_dollar : (b : List ℕ) (w : Word) → true ≡ list_any is_dollar_quoted w.parts → None ≡ delimiter_in b w
 unfolding is_delimiter
 delimiter_dollar b w dollar =
@@ -43,7 +43,7 @@ delimiter_whole b w o line dollar is = is ∙ go (parts_text b w.parts) refl
         let all : is_delimiter b w ≡ true = ap whole e ∙ ap (λ d. not d && not (list_any is_newline (text_of b w.span))) (sym dollar) ∙ ap not (sym line) in
         ap Some (ap or_none (sym e)) ∙ sym (cond-true _ _ _ all)
 
--- what is told of the word
+-- what is reported of the word
 go_delimiter : (b : List ℕ) (w : Word) (t : Bool) (d : List ℕ) → is_delimiter b w ≡ t → Some d ≡ cond t (Some (delimiter_of b w)) None → (is_delimiter b w ≡ true) × (delimiter_of b w ≡ d)
 go_delimiter b w true d is h = (is, cc)
 go_delimiter b w false d is h = cc

@@ -45,7 +45,7 @@ module _ (b : List ℕ) (m : Mark) (s : State) where
         let read = subst (λ (y : Span). ReadsParts limit (take y.start b) (in_document_of (mark_of m)) 10 (in_document (mark_of m) (here s)) u ps) (same_line l.0 l.3) l.5 in
         (with_document line.start states.no_document u (here s), ps, (u, read, l.6, refl), subst (λ (y : states.State). u.count ≤ y.spot.count) (sym l.7) (le_refl u.count))) h
 
-    -- the state behind it
+    -- the state after it
     pub document_read : (ps : List Part) (count : ℕ) (v : State) → IsKept b m s line → BodyOf b m line.start s ps count → Lies b s → s.at ≤ behind_line b line.end
         → behind_line b line.end ≤ length b → v ≡ record s { at = behind_line b line.end; count = count; bodies = s.bodies ++ record { text = word s.at line.start ps; end = line } ∷ [] }
         → Passes b (DocumentFrom b m s) s.at v
@@ -70,7 +70,7 @@ module _ (b : List ℕ) (m : Mark) (s : State) where
         one : Document
         one = record { text = word s.at line.start ps; end = line }
 
-        -- the reading's state behind it
+        -- the reading's state after it
         there : here v ≡ with_document (behind_line b line.end) (record { text = word s.at line.start ps; end = line }) body.last (here s)
         there =
             ap here to ∙ ap (λ ds. record (here (record s { at = behind_line b line.end; count = count })) { bodies = ds }) (map-append document_of s.bodies (one ∷ []))
@@ -126,7 +126,7 @@ pub record DocumentsLeft (b : List ℕ) (all : List Mark) (s : State) (left : Li
 pub documents_first : (b : List ℕ) (all : List Mark) (s : State) → Lies b s → AreBefore (length b) all → DocumentsLeft b all s all s
 documents_first b all s lies marked = record { forth = λ limit u h. h; back = λ u h. h; from = le_refl s.at; lies = lies; marked = marked }
 
--- a body, and the others behind it
+-- a body, and the others after it
 first_document : {limit : ℕ} {b : List ℕ} {s u : states.State} {n : documents.Mark} {ms : List documents.Mark} → ReadsDocuments limit b (n ∷ ms) s u
     → (l : Span) × (w : Spot) × (ps : List Part) × (end_line n b s.spot.at ≡ Some l) × (documents.is_ambiguous n b s.spot.at l.start ≡ false)
     × (documents.keeps_document b s.spot.joins s.spot.tabs n (record { start = s.spot.at; end = behind_line b l.end }) ≡ true)

@@ -50,7 +50,7 @@ no_elements none (r.assigned_element h w e) = absurd (apart begins_simple (sym h
 no_elements none (r.word_element h w e) = absurd (apart begins_simple (sym h) refl none)
 no_elements {b = b} {g = g} {s = s} none (r.redirect_element h q e) = absurd (true≢false (sym h ∙ not_redirection (lead_of b g s) none))
 
--- a word, and the elements behind it
+-- a word, and the elements after it
 abbrev FirstWord : ℕ → List ℕ → (ℕ → Document) → Stage → states.State → states.State → List Element → Type 0
 FirstWord limit b body g s v es =
     (u : Spot) × (w : Word) × (fs : List Element) × (es ≡ element.Word w ∷ fs) × ReadsWord limit b (in_stage b g s.spot.at) (facing s) u w
@@ -64,7 +64,7 @@ first_word is (r.assigned_element h w e) = cc
 first_word is (r.word_element {u = u} {w = w} {es = fs} h read e) = (u, w, fs, refl, read, e)
 first_word is (r.redirect_element h q e) = absurd (apart is_redirection is h refl)
 
--- an assignment, and the elements behind it
+-- an assignment, and the elements after it
 abbrev FirstAssignment : ℕ → List ℕ → (ℕ → Document) → states.State → states.State → List Element → Type 0
 FirstAssignment limit b body s v es =
     (u : Spot) × (w : Word) × (fs : List Element) × (es ≡ element.Assignment (span s.spot.at (name_end b s.spot.at)) w ∷ fs)
@@ -78,7 +78,7 @@ first_assignment is (r.assigned_element {u = u} {w = w} {es = fs} h read e) = (u
 first_assignment is (r.word_element h read e) = cc
 first_assignment is (r.redirect_element h q e) = absurd (apart is_redirection is h refl)
 
--- a redirection, and the elements behind it
+-- a redirection, and the elements after it
 abbrev FirstRedirect : ℕ → List ℕ → (ℕ → Document) → Stage → states.State → states.State → List Element → Type 0
 FirstRedirect limit b body g s v es =
     (u : states.State) × (q : Redirect) × (fs : List Element) × (es ≡ element.Redirection q ∷ fs) × ReadsRedirect limit b body s u q

@@ -1,4 +1,4 @@
--- What is told at the end of a text, and where here-documents wait.
+-- What is reported at the end of a text, and where here-documents wait.
 use Rattle.std.proofs.Common.{◌≡◌, ◌<◌, ◌≤◌, ℕ, false, List, [], ◌∷◌, drop, length, Some, None, refl, sym, ap, subst, ◌∙◌, le_refl, lt_of_lt_of_le, true≢false, arith}
 use Rattle.sh_tree.specs.declared.refusal.Fault.{Fault}
 use Rattle.sh_tree.specs.declared.refusal.Fault.TheVariants as fault
@@ -58,12 +58,12 @@ misplaced_fault b t i e is inside = subst (IsFault b) (sym is) (go t)
     go (ticks.Here quoted) = omega arith
     go (ticks.Deeper quoted) = inside
 
--- before the end of the text what is told does not hang on here-documents
+-- before the end of the text what is reported does not depend on here-documents
 pub tells_inside : (b : List ℕ) (l : Lead) (s : State) (e : Refusal) → (l ≡ lead.End → ⊥) → TellsAt b l s e → Tells b l s.at e
 tells_inside b lead.End s e none h = absurd (none refl)
 tells_inside b lead.Backquote s e none h = (s.ticks, h)
 tells_inside b _ s e none h = h
 
--- where no line continuation stands from the token's beginning on, the form is told there
+-- if there is no line continuation from the token's beginning on, the form is reported there
 pub no_continuation : (b : List ℕ) (f : Form) (i : ℕ) → f ≡ form.Continuation → i < length b → false ≡ is_split_text (drop i b) → IsPlace b f i i
 no_continuation b f i is lt none = subst (λ g. IsPlace b g i i) (sym is) (le_refl i, lt, λ split. absurd (true≢false (sym split ∙ sym none)))

@@ -115,7 +115,7 @@ module _ (b : List ℕ) (s : State) where
           (breaks.forth limit w (subst (λ x. ReadsBreaks limit b x w) (ap (λ x. parted b x) o.0 ∙ sym at) l.3), o.1);
     }
 
--- What stands between the name and `do`
+-- What is between the name and `do`
 
 ended_of : {limit : ℕ} {b : List ℕ} {s u : states.State} {o : Option (List Word)} → lead_here b s ≡ lead.Operator op.Semicolon → ReadsForWords limit b s u o
     → (o ≡ None) × ReadsBreaks limit b (skip b 1 s) u
@@ -129,7 +129,7 @@ ended_of {b = b} is (r.listed k h ws e l) =
     let no : lead.Operator op.Semicolon ≡ lead.Reserved word.In = sym is ∙ sym same ∙ h in
     cc
 
--- where no `;` stands, and the newlines end at w
+-- where there is no `;`, and the newlines end at w
 abbrev WordsOf : ℕ → List ℕ → states.State → states.State → Option (List Word) → Type 0
 WordsOf limit b w u o =
     ((lead_here b w ≡ lead.Reserved word.Do) × (o ≡ None) × (u ≡ w))

@@ -55,7 +55,7 @@ joined_from tabbed (c ∷ d ∷ cs) = go (is_backslash c) refl (is_newline d && 
       room = λ h. omega arith;
     }
 
--- what is looked for stands from i on, if it stands in the text
+-- what is looked for is from i on, if it is in the text
 pub record JoinedLeft (tabbed : Bool) (text : List ℕ) (i : ℕ) : Type 0 where
   pub same : has_joined (before tabbed) (drop i text) ≡ has_joined (before tabbed) text
   pub within : i ≤ length text
@@ -106,7 +106,7 @@ module _ (text : List ℕ) (begins : Bool) (i : ℕ) (h : TabbedLeft text begins
     pub tabbed_goes_on : (begins && is_tab c) ≡ false → TabbedLeft text (is_newline c) (i + 1)
     tabbed_goes_on other = record { same = sym (first ∙ ap (λ v. v || has_tabbed_line (is_newline c) (drop (i + 1) text)) other) ∙ refl; within = omega arith }
 
--- only what is asked for is told
+-- only what is asked for is reported
 pub asked_none : (asked t : Bool) → asked ≡ false → false ≡ (asked && t)
 asked_none asked t h = sym (ap (λ v. v && t) h)
 

@@ -13,7 +13,7 @@ use Rattle.sh_grammar.specs.Lines.{piece_step, piece_kept, strip_step, ends}
 
 -- Pieces
 
--- a line is what its first piece keeps, and the line behind it
+-- a line is what its first piece keeps, and the line after it
 record Pieces (joins : Bool) (cs : List ℕ) : Type 0 where
   is : line_text joins cs ≡ take (piece_kept joins cs) cs ++ line_text joins (drop (piece_step joins cs) cs)
 
@@ -43,7 +43,7 @@ and_and : (a b c : Bool) → (a && (b && c)) ≡ ((a && b) && c)
 and_and true b c = refl
 and_and false b c = refl
 
--- a text that begins with a piece is another, where that begins with the piece and goes on as it does
+-- a text that begins with a piece is another, if that begins with the piece and goes on as it does
 eq_front : (front rest wanted : List ℕ) → bytes_eq (front ++ rest) wanted ≡ (starts_with nat_eq wanted front && bytes_eq rest (drop (length front) wanted))
 eq_front [] rest wanted = refl
 eq_front (c ∷ cs) rest [] = refl
@@ -55,7 +55,7 @@ front_within [] text h = omega arith
 front_within (c ∷ cs) [] h = absurd (true≢false (sym h))
 front_within (c ∷ cs) (d ∷ ds) h = let rest = front_within cs ds (and_parts (nat_eq c d) (starts_with nat_eq ds cs) h).1 in omega arith
 
--- the line from i on is the text from j on, where the line is the text
+-- the line from i on is the text from j on, if the line is the text
 pub record TextLeft (joins : Bool) (line text : List ℕ) (i j : ℕ) : Type 0 where
   pub same : bytes_eq (line_text joins (drop i line)) (drop j text) ≡ bytes_eq (line_text joins line) text
   pub in_line : i ≤ length line
@@ -160,7 +160,7 @@ strips joins (c ∷ d ∷ cs) = ⊎_elim
         stays joins (c ∷ d ∷ cs) (cond-false _ _ _ other ∙ ap (λ v. cond (v && is_newline d) 2 0) e)
         (ap (λ t. drop (run is_tab t) t) line ∙ none_first c (line_text joins (d ∷ cs)) other ∙ sym line)
 
--- what stands from i on without its tabs is the line without its tabs
+-- what is from i on without its tabs is the line without its tabs
 pub record TabsLeft (joins : Bool) (line : List ℕ) (i : ℕ) : Type 0 where
   pub same : untabbed joins (drop i line) ≡ untabbed joins line
   pub within : i ≤ length line

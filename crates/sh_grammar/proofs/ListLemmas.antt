@@ -29,7 +29,7 @@ use Rattle.sh_grammar.proofs.ReaderLemmas.{refused_by, Behind, nothing_yet, one_
 
 -- Commands between bars
 
--- behind a bar come more commands
+-- after a bar come more commands
 abbrev MoreCommands : ℕ → List ℕ → (ℕ → Document) → states.State → states.State → List Command → Type 0
 MoreCommands limit b body u v ds = (is_bar (lead_here b u) ≡ true) × (w : states.State) × ReadsBreaks limit b (skip b 1 u) w × ReadsCommands limit b body w v ds
 
@@ -285,7 +285,7 @@ module _ (b : List ℕ) (s next : State) (found : List Item) (h : ItemsFound b s
           let o = one.only limit f.0 f.1 f.2 in
           subst (λ m. ReadsTail limit b unread m (here u) k xs) o.1 (subst (λ w. ReadsTail limit b unread f.1 w k xs) o.0 f.3)
 
-      -- the last item, behind which no separator stands
+      -- the last item, which no separator follows
       pub items_last : separator (lead_at b First u.at) ≡ None → not (is_reserved (lead_at b First u.at)) || u.closed ≡ true
           → One (RestFrom b s) (here u) (found ++ item l false ∷ [])
       items_last none closes = found_with (RestFrom b) s next found (item l false ∷ []) (here u) h.behind (record {

@@ -1,4 +1,4 @@
--- Where the first NUL stands, and that there is none.
+-- Where the first NUL is, and that there is none.
 use Rattle.std.proofs.Common.{◌≡◌, ℕ, ◌+◌, ◌<◌, ◌≤◌, ◌==◌, Bool, true, false, not, ◌||◌, List, [], ◌∷◌, length, nat_lt, Some, None, cond, refl, ap, ◌∙◌, ⊎_elim, arith}
 use Rattle.std.specs.List.{list_any, position_or_len}
 use Rattle.std.proofs.lemmas.Bool.{cases_lt, lt-ltb, false_from_ne_true}

@@ -7,7 +7,8 @@ use Rattle.sh_tree.specs.standard.language.States as states
 use Rattle.sh_grammar.specs.Faults.{IsFault}
 use Rattle.sh_grammar.specs.Readers.{Reading, One, Nothing, Refused, Steps}
 
--- A refusal of one thing is one of another, where the first is read in each reading of the other and ends behind no more commands.
+-- A refusal of one thing is one of another, if each reading of the other reads the first, which
+-- ends after no more commands.
 pub refused_by : {A B : Type 0} (b : List ℕ) (R : Reading A) (Q : Reading B) (e : Refusal)
     → ((limit : ℕ) (k : states.State) (y : B) → Q limit k y → (j : states.State) × (x : A) × R limit j x × (j.spot.count ≤ k.spot.count)) → Refused b R e → Refused b Q e
 refused_by b R Q (Syntax f at) inside h = (h.0, λ limit k y l. let t = inside limit k y l in h.1 limit t.0 t.1 t.2)

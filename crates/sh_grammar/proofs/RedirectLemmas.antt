@@ -43,7 +43,7 @@ not_both op.HereDoc d h = cc
 not_both op.HereDocTabs d h = cc
 not_both _ d h = refl
 
--- a redirection of a file, where the operator has a direction
+-- a redirection of a file, if the operator has a direction
 abbrev FileOf : ℕ → List ℕ → states.State → states.State → Redirection → Direction → Redirect → Type 0
 FileOf limit b s v at d q =
     (u : Spot) × (w : Word) × (v ≡ past b u s) × (q ≡ tree.redirect at.at at.number (File d w)) × (is_word (lead_of b (Named false) (next b at.end s)) ≡ true)
@@ -75,12 +75,12 @@ begins_redirect (r.here_document {r = f} h o l read k) = (f, h)
 pub no_redirect : (b : List ℕ) (s : State) → redirection b s.at ≡ None → Nothing (RedirectFrom b s)
 no_redirect b s none limit v q l = let f = begins_redirect l in let no : Some f.0 ≡ None = sym f.1 ∙ none in cc
 
--- the word behind the operator
+-- the word after the operator
 abbrev TargetOf : ℕ → List ℕ → states.State → Redirection → Spot → Word → Type 0
 TargetOf limit b s at u w =
     (is_word (lead_of b (Named false) (next b at.end s)) ≡ true) × ReadsWord limit b (in_unsplit (next b at.end s).spot.at) (facing (next b at.end s)) u w
 
--- each redirection has one, and ends behind it
+-- each redirection has one, and ends after it
 target_of : {limit : ℕ} {b : List ℕ} {body : ℕ → Document} {s v : states.State} {q : Redirect} (at : Redirection) → redirection b s.spot.at ≡ Some at
     → ReadsRedirect limit b body s v q → (u : Spot) × (w : Word) × TargetOf limit b s at u w × (v.spot.count ≡ u.count)
 target_of {limit = limit} {b = b} {s = s} at is (r.file {u = u} {r = f} {w = w} h o l read) =
@@ -98,7 +98,7 @@ no_direction _ strip h = cc
 abbrev marked : List ℕ → Bool → Word → states.State → documents.Mark
 marked b strip w s = record { strip = strip; quoted = is_quoted_word w; delimiter = delimiter_of b w; depth = s.spot.depth }
 
--- a here-document, where the operator is one
+-- a here-document, if the operator is one
 abbrev DocumentOf : ℕ → List ℕ → (ℕ → Document) → states.State → states.State → Redirection → Bool → Redirect → Type 0
 DocumentOf limit b body s v at strip q =
     (u : Spot) × (w : Word) × TargetOf limit b s at u w × (is_delimiter b w ≡ true) × (v ≡ with_mark (marked b strip w s) (past b u s))
@@ -121,7 +121,7 @@ document_is {limit = limit} {b = b} {body = body} {s = s} at strip is way (r.her
       ap (λ p. tree.redirect p.at p.number (document g)) same ∙ ap (λ x. tree.redirect at.at at.number (document x)) stripped,
     )
 
--- The word behind an operator that ends at i
+-- The word after an operator that ends at i
 
 pub word_is : (l : Lead) → is_word l ≡ true → l ≡ lead.Word
 word_is lead.Word h = refl
@@ -226,7 +226,7 @@ awaiting_stands b v m h before shallow = record {
   behind = one_more_before v.at v.pending m h.behind before shallow;
 }
 
--- Redirections behind a compound command
+-- Redirections after a compound command
 
 pub record RedirectsFound (b : List ℕ) (s : State) (found : List Redirect) (v : State) : Type 0 where
   pub behind : Behind (RedirectsFrom b) s found v

@@ -1,4 +1,4 @@
--- A reserved word stands whole in the text.
+-- A reserved word is whole in the text.
 use Rattle.std.proofs.Common.{◌≡◌, ℕ, ◌+◌, ◌≤◌, ◌&&◌, Bool, true, false, List, [], ◌∷◌, length, drop, take, nat_eq, Option, Some, None, cond, refl, sym, ap, ◌∙◌, ⊎_elim, arith}
 use Rattle.std.proofs.lemmas.Bool.{cases_Bool, cond-true, cond-false, true≢false}
 use Rattle.std.proofs.lemmas.List.{length-drop, length-take}
@@ -131,7 +131,7 @@ bare_within b i = go _ _
     go true n = omega (arith, length-take n (drop i b))
     go false n = omega arith
 
--- a reserved word stands in the text
+-- a reserved word is in the text
 pub reserved_inside : (b : List ℕ) (i : ℕ) (r : Reserved) → lead_at b First i ≡ lead.Reserved r → i ≤ length b → i + length (reserved_text r) ≤ length b
 unfolding lead_at
 reserved_inside b i r h inside =

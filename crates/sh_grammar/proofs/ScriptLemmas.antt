@@ -36,7 +36,8 @@ first_stands b i is inside = record {
   behind = tt;
 }
 
--- a script of the text is a sequence from its first token to its end, behind which no here-document waits
+-- a script of the text is a sequence from its first token to its end, after which no here-document
+-- waits
 record SequenceOf (b : List ℕ) (limit count : ℕ) (t : Script) : Type 0 where
   end : states.State
   tree : Script
@@ -125,7 +126,7 @@ module _ (b : List ℕ) (text : IsText b) where
   text_refused Memory h = text
   text_refused _ h = absurd h
 
--- What is told behind a sequence at the front
+-- What is reported after a sequence at the front
 
 module _ (b : List ℕ) where
   module _ (t : Script) (v : State) (one : One (SequenceFrom b (first_of b)) (here v) t) where

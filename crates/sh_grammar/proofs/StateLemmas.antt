@@ -1,11 +1,11 @@
--- Where states stand.
+-- Where states are.
 use Rattle.std.proofs.Common.{ℕ, ◌≤◌, Bool, false, List, [], ◌∷◌, length, Option, Some, None, lt_of_lt_of_le}
 use Rattle.sh_tree.specs.declared.limits.TheConstants.{MAX_NESTING}
 use Rattle.sh_grammar.specs.declared.mark.Mark.{Mark}
 use Rattle.sh_grammar.specs.declared.state.State.{State}
 use Rattle.sh_grammar.specs.States.{AreBefore, IsBefore, Lies, Stands}
 
--- what stands before a place stands before a later one
+-- what is before a place is before a later one
 pub before_later : (m n : ℕ) (o : Option ℕ) → m ≤ n → IsBefore m o → IsBefore n o
 before_later m n None after h = tt
 before_later m n (Some i) after h = lt_of_lt_of_le h after

@@ -1,4 +1,4 @@
--- Command substitutions: the commands and the parenthesis behind them.
+-- Command substitutions: the commands and the parenthesis after them.
 use Rattle.std.proofs.Common.{◌≡◌, ℕ, zero, suc, ◌+◌, ◌-◌, ◌<◌, ◌≤◌, Bool, true, false, not, cond, List, [], ◌∷◌, length, map, take, drop, Option, Some, None, Result, Ok, Err, refl, sym, ap, subst, ◌∙◌, ⊎_elim, le_refl, le_trans, lt_of_lt_of_le, length-drop, length-take, take_all, arith}
 use Rattle.std.proofs.lemmas.Bool.{true≢false, cases_Bool, cond-true, cond-false}
 use Rattle.std.proofs.lemmas.List.{drop-drop}
@@ -102,14 +102,14 @@ module _ (style : CommandStyle) (b : List ℕ) (s : State) (level : IsLevel s) w
         let there : k.spot ≡ (here v).spot = l.is ∙ ap (λ u. u.spot) (level_end l) in
         true≢false (sym q.1 ∙ ap (λ u. closes style b u.at) there ∙ shut)
 
-    -- the body of a here-document in it stands outside
+    -- the body of a here-document in it is outside
     pub closed_across : (i : ℕ) → Some i ≡ waiting None v.pending → Nothing (ClosedFrom style b s)
     closed_across i some limit k y q =
         let l = level_of q.0 in
         true≢false (sym (some_wait v.pending i some) ∙ sym (ap (λ (u : states.State). waits u.pending) (level_end l)) ∙ l.over)
 
     module _ (close : closes style b v.at ≡ true) (none : None ≡ waiting None v.pending) where
-      -- the level ends where v stands
+      -- the level ends where v is
       ends_level : within (here v).spot ≡ here (record v { closed = false; bodies = [] })
       ends_level = sym (ap (λ ms. record (within (here v).spot) { pending = ms }) (none_pending v.pending none))
 

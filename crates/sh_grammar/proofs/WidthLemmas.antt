@@ -31,7 +31,7 @@ prefix_within (c ∷ cs) (d ∷ ds) h = let rest = prefix_within cs ds (go (nat_
     go true k = k
     go false k = absurd (true≢false (sym k))
 
--- what a table finds is as long, and stands in the text
+-- what a table finds is as long, and is in the text
 longest_wide : (width : Operator → ℕ) (table : List (List ℕ × Operator)) (cs : List ℕ) (o : Operator) (n : ℕ) → Wide width table → longest table cs ≡ Some (o, n)
     → (n ≡ width o) × (n ≤ length cs)
 unfolding longest

@@ -92,7 +92,7 @@ waiting_is (Some i) ms = refl
 waiting_is None [] = refl
 waiting_is None (m ∷ ms) = refl
 
--- what is left for the builder w, behind as many commands as v, is what is left of the word at i
+-- what is left for the builder w, after as many commands as v, is what is left of the word at i
 pub record Begun (b : List ℕ) (m : Mode) (i : ℕ) (s : State) (w : WordBuilder) (v : State) : Type 0 where
   pub forth : (limit : ℕ) (u : Spot) (ps : List Part) → ReadsParts limit b (context_of b m i) (first_prior m) (spot_of i s) u ps → Left b w limit (around v) u ps
   pub back : (u : Spot) (ps : List Part) → Left b w 64 (around v) u ps → ReadsParts 64 b (context_of b m i) (first_prior m) (spot_of i s) u ps
@@ -101,7 +101,7 @@ pub record Begun (b : List ℕ) (m : Mode) (i : ℕ) (s : State) (w : WordBuilde
 abbrev pub Moved : Mode → ℕ → WordBuilder → Type 0
 Moved m i w = (i < position w) ⊎ (IsNew w × (position w ≡ i))
 
--- the driver of a builder: how the builder stands, and the state that counts the commands handed back
+-- the driver of a builder: the builder as it is, and the state that counts the commands handed back
 pub record Driven (b : List ℕ) (m : Mode) (i : ℕ) (s : State) (w : WordBuilder) (v : State) : Type 0 where
   pub begun : Begun b m i s w v
   pub goes : Goes w
@@ -167,7 +167,7 @@ module _ (b : List ℕ) (m : Mode) (all : seen b m ≡ b) (i : ℕ) (s v : State
   pub word_refused : (new : WordBuilder) (e : Refusal) → Runs (seen b w.mode) (Left (seen b w.mode) w) new (Err e) → Refused b parts_here e
   word_refused new e h = refuses e (subst (λ x. Refuses x (Left x w) e) sees h)
 
-  -- the context does not end where a word begins of which nothing is read
+  -- the context does not end where a word begins, before anything of it is read
   begins : IsNew w → position w ≡ i → BeginsBehind (first_prior m) b (context_of b m i) i s → sound.Begins (seen b w.mode) w
   begins new at none stop =
       let there : (token b (context_of b m i) (first_prior m) i).sign ≡ sign.Stop =
@@ -236,7 +236,7 @@ module _ (b : List ℕ) (m : Mode) (all : seen b m ≡ b) (i : ℕ) (s v : State
                 let some : l.0.count ≤ q.0.count = left_count b limit (after_commands (around v) l.0) q.0 ps (fed new start style l.1 (l.0.at + 1)) l.6 in
                 (within l.0, l.1, closed_here l.5 l.3 l.4, subst (λ x. l.0.count ≤ x.spot.count) (sym q.2) some)
 
-        -- and the builder goes on behind them
+        -- and the builder goes on after them
         begun_fed : (t : Script) (end : State) → One asked_here (here end) t → Begun b m i s (behind t end) (record v { count = end.count })
         begun_fed t end one = record {
           forth = λ limit u ps h.
@@ -318,7 +318,7 @@ word_unread b m i s e whole h = refused_by b (PartsAt b (context_of b m i) (firs
     (λ limit k y q. let f = parts_of_word b m i s whole limit k y q in (k, f.0, f.1, le_refl k.spot.count)) h
 
 module _ (b : List ℕ) (m : Mode) (whole : IsWhole m) (i : ℕ) (s v : State) (w : Word) (h : Whole b (context_of b m i) (first_prior m) i s w v) where
-  -- its parts are the only ones behind no byte
+  -- its parts are the only ones after no byte
   only_parts : (limit : ℕ) (u : Spot) (qs : List Part) → ReadsParts limit b (context_of b m i) 0 (spot_of i s) u qs → (u ≡ spot_of w.span.end v) × (qs ≡ w.parts)
   only_parts limit u qs q = h.only limit u qs (subst (λ p. ReadsParts limit b (context_of b m i) p (spot_of i s) u qs) (sym (whole_prior m whole)) q)
 
@@ -349,7 +349,7 @@ module _ (b : List ℕ) (m : Mode) (whole : IsWhole m) (i : ℕ) (s v : State) (
           let there : not (context_of b m i).colons && is_location b i w.span.end ≡ false = subst (λ z. not (context_of b m i).colons && is_location b i z.at ≡ false) e.0 free in
           true≢false (sym located ∙ there)
 
-  -- nor are quotes that hold a continuation, where lines are joined
+  -- nor are quotes that hold a continuation, if lines are joined
   pub word_split : keeps_lines b v.joins w.parts ≡ false → Nothing (WordAt b (context_of b m i) i s)
   word_split split = λ limit k y q. none limit q.0 y q.1
     where

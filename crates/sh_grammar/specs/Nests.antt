@@ -10,7 +10,7 @@ use Rattle.sh_grammar.specs.declared.state.State.{State}
 use Rattle.sh_grammar.specs.States.{Stands}
 use Rattle.sh_grammar.specs.Readers.{Answers, SequenceFrom}
 
--- it may be called where fewer than so many bytes are left
+-- it may be called if fewer than so many bytes are left
 pub record Nests (left : ℕ) (pre : Global → Bor (List ℕ) → State → Type 0)
     (post : Global → Bor (List ℕ) → State → Result (Script × State) Refusal → Type 0) : Type 0 where
   pub callable : (alloc : Global) (b : Bor (List ℕ)) (s : State) → length b.now ≤ MAX_SCRIPT → Stands b.now s → length b.now - s.at < left → pre alloc b s

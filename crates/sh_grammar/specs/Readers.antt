@@ -50,7 +50,7 @@ NothingWithin {A = A} R = (k : states.State) (y : A) → R 64 k y → ⊥
 abbrev pub Crowded : {A : Type 0} → Reading A → Type 0
 Crowded {A = A} R = (limit : ℕ) (k : states.State) (y : A) → R limit k y → MAX_COMMANDS < k.spot.count
 
--- a refusal, at a place of the text, only where nothing is read
+-- a refusal, at a place of the text, only if nothing is read
 abbrev pub Refused : {A : Type 0} → List ℕ → Reading A → Refusal → Type 0
 Refused b R (Syntax f at) = (at ≤ length b) × Nothing R
 Refused b R (LeftOut f at) = (at < length b) × Nothing R

@@ -1,4 +1,5 @@
--- What a level of a parse with no fault leaves in its rows: each has a first value, and that value passed.
+-- What a level of a parse with no fault leaves in its rows: each has a first value, and that value
+-- passed.
 use Rattle.std.proofs.Common.{◌≡◌, ◌<◌, ◌&&◌, ◌||◌, ◌⊎◌, ℕ, Bool, cond, true, false, zero, suc, refl, sym, subst, arith, lt-ltb, ne_eqb, true≢false, List, [], ◌∷◌, ◌++◌, length, drop, Option, Some, None, is_some, inl, inr}
 use Rattle.std.specs.Prelude.{⊤, encode_utf8, find, fold, slice_get}
 use Rattle.std.specs.List.{list_any}
@@ -45,7 +46,8 @@ pub record Good (F : Text → Reading → Text → Type 0) (r : Row) : Type 0 wh
   pub is : slice_get r.values 0 ≡ Some first
   pub fits : F r.id r.reading first
 
--- a use of the argument has a value, or asks for help, or stands for one that fits; and a value that passes fits
+-- a use of the argument has a value, or asks for help, or means one that fits; and a value that
+-- passes fits
 pub record Sound (F : Text → Reading → Text → Type 0) (a : Rule) : Type 0 where
   pub takes : (0 < (unwrap_or_range a.range).start_inclusive) ⊎ ((action_of a ≡ action.Help) ⊎ ((v : Text) × (vs : List Text) × (values_or_missing a [] ≡ v ∷ vs) × F a.id (reading_by a) v))
   pub fits : (v : Text) → value_kinds a.ignore_case (parser_of_value a.parser) v ≡ [] → F a.id (reading_by a) v
@@ -339,7 +341,7 @@ module _ (F : Text → Reading → Text → Type 0) where
 
 -- ---- the rows that are there
 
--- the row of an id, where one is there
+-- the row of an id, if one is there
 pub row_found : (F : Text → Reading → Text → Type 0) (p : Row → Bool) (rows : List Row) → AllGood F rows → list_any p rows ≡ true
     → (r : Row) × (find p rows ≡ Some r) × (p r ≡ true) × Good F r
 row_found F p [] g e = absurd (true≢false (sym e))
@@ -397,7 +399,7 @@ rows_stay : (id : Text) (rest : List Rule) (rows : List Row) → has_row id rows
 rows_stay id [] rows e = e
 rows_stay id (a ∷ rest) rows e = rows_stay id rest (with_default rows a) (row_stays id a rows e)
 
--- the first argument has a row, where it has a default
+-- the first argument has a row, if it has a default
 pub default_row : (a : Rule) (d : Text) (ds : List Text) (rest : List Rule) (rows : List Row) → a.defaults ≡ d ∷ ds
     → has_row a.id (fold with_default rows (a ∷ rest)) ≡ true
 default_row a d ds rest rows is = rows_stay a.id rest (with_default rows a) (go (has_row a.id rows) refl)

@@ -197,7 +197,7 @@ level_entered P p (s ∷ rest) words q each e passes = go (p s) (level_entered P
         subst P same (each.0 words passes)
     go false rec e passes = rec e passes
 
--- and so of what is found, where the words have no fault and name a subcommand
+-- and so of what is found, if the words have no fault and name a subcommand
 pub found_passes : (P : Text × List Row → Type 0) → EachLevel P (built shset_app).subs → (words : List Text) (q : Text × List Row)
     → fault_of shset_app words ≡ [] → subcommand_of shset_app words ≡ Some q → P q
 found_passes P each words q none is =

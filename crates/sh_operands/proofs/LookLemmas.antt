@@ -90,7 +90,7 @@ has_in_operator-Length look quoted b = ap (in_operator look quoted) (rules.opera
 
 pub ruleset operators = (has_in_operator-Use, has_in_operator-Remove, has_in_operator-Value, has_in_operator-Length)
 
--- an expansion: itself, and the word behind its operator
+-- an expansion: itself, and the word after its operator
 
 expansion_assigns : (quoted : Bool) (parameter : p.Parameter) (o : p.Operator) → operator_assigns is_ifs parameter o ≡ ((spec.operator_assigns o && spec.is_variable_ifs parameter) || in_operator SetsIfs quoted o)
 unfolding word_assigns spec.operator_assigns spec.is_variable_ifs is_assign in_operator in_word

@@ -103,7 +103,7 @@ compound_text : (d : ℕ) (what : bare.Kind) (qs : List bare.Redirect) (rest : L
 unfolding items_text
 compound_text d what qs rest = append_assoc (kind_text d what) (redirects_text qs) rest
 
--- a token stands at the start of the command's text, and it begins a command
+-- a token is at the start of the command's text, and it begins a command
 pub record CommandStarts (cs : List ℕ) : Type 0 where
   pub front_is : front cs ≡ cs
   pub begins : begins_command (lead_at cs First 0) ≡ true

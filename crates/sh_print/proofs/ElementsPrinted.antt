@@ -69,7 +69,7 @@ no_redirection lead.Word h = refl
 no_redirection lead.Assignment h = refl
 no_redirection l h = h
 
--- a token stands at the start of a text, and it is no `(`
+-- a token is at the start of a text, and it is no `(`
 pub record Starts (cs : List ℕ) : Type 0 where
   pub front_is : front cs ≡ cs
   pub closed : is_first is_parenthesis cs ≡ false

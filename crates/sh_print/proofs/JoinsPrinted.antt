@@ -1,5 +1,5 @@
--- What stands between printed commands is read: the end of an item, and what follows `|`, `&&`
--- and `||`.
+-- What is between printed commands is read: the end of an item, and what follows `|`, `&&` and
+-- `||`.
 use Rattle.std.proofs.Common.{◌≡◌, ℕ, ◌+◌, Bool, true, false, if◌then◌else◌, Some, List, [], ◌∷◌, ◌++◌, length, drop, codes, refl, sym, ap, subst, ◌∙◌, append_assoc}
 use Rattle.std.specs.List.{flat_map}
 use Rattle.std.proofs.lemmas.Bool.{true≢false}

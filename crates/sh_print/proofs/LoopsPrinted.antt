@@ -79,7 +79,7 @@ module _ (b : List ℕ) where
         same = ap (λ t. t ∷ map (word_of b) others.words) one.word_is ∙ ap (λ ts. w ∷ ts) others.same;
       }
 
-  -- what stands between the name and `do`, from the token after the name
+  -- what is between the name and `do`, from the token after the name
   record PrintedForWords (limit i n k : ℕ) (closed : Bool) (ds : List Document) (ws : Option (List Text)) (rest : List ℕ) : Type 0 where
     at : ℕ
     count : ℕ

@@ -135,7 +135,7 @@ module _ (b : List ℕ) where
     pub reads : (body : ℕ → Document) → Fits b body (length (so_far b ds [])) met
         → (y : Pipe) × ReadsPipeline limit b body (place i n k closed [] ds) (place at count k ended marks bodies) y × (pipeline_of b y ≡ x)
 
-  -- a token stands at the start of the pipeline's text, and it begins a pipeline
+  -- a token is at the start of the pipeline's text, and it begins a pipeline
   pub record PipelineStarts (cs : List ℕ) : Type 0 where
     pub front_is : front cs ≡ cs
     pub begins : begins_pipeline (lead_at cs First 0) ≡ true

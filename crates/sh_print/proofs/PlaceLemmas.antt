@@ -1,4 +1,4 @@
--- The tokens of commands at a place of a text are those at the start of what stands there.
+-- The tokens of commands at a place of a text are those at the start of what is there.
 use Rattle.std.proofs.Common.{◌≡◌, ℕ, zero, suc, ◌+◌, ◌==◌, Bool, true, false, ◌&&◌, List, [], ◌∷◌, ◌++◌, length, drop, replicate, refl, sym, ap, ◌∙◌, arith, cond}
 use Rattle.std.proofs.lemmas.Bool.{cond-true, cond-false}
 use Rattle.std.proofs.lemmas.List.{drop-drop, drop_at}
@@ -11,7 +11,7 @@ use Rattle.sh_tree.specs.standard.language.Commands.{gap_length, comment_length,
 abbrev pub front : List ℕ → List ℕ
 front cs = drop (blank_length false cs) cs
 
--- after a text that stands at i
+-- after a text that is at i
 pub off : (b : List ℕ) (i : ℕ) (w cs : List ℕ) → drop i b ≡ w ++ cs → drop (i + length w) b ≡ cs
 off b i w cs e = sym (drop-drop (length w) i b) ∙ ap (drop (length w)) e ∙ drop_at w cs (length w) refl
 

@@ -1,5 +1,5 @@
 -- Which bare trees have a canonical text that is read again: a constructor for each production.
--- Each word and here-document is read alike wherever it stands, and the grammar misses nothing.
+-- Each word and here-document is read alike wherever it is, and the grammar misses nothing.
 -- The depth is that of the piece's first token.
 use Rattle.std.proofs.Common.{◌≡◌, ◌<◌, ℕ, ◌+◌, Bool, true, false, not, ◌&&◌, ◌||◌, List, [], ◌∷◌, Option, Some, None}
 use Rattle.std.specs.List.{list_any, list_all}

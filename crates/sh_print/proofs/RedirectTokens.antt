@@ -28,7 +28,7 @@ use Rattle.sh_print.proofs.OwnTokens.{operator_leads, unsplit, unjoined}
 use Rattle.sh_print.proofs.NameTokens.{no_last}
 use Rattle.sh_print.proofs.Printable.{is_number}
 
--- the text that stands at i
+-- the text that is at i
 pub text_there : (b : List ℕ) (i : ℕ) (w cs : List ℕ) → drop i b ≡ w ++ cs → text_of b (span i (i + length w)) ≡ w
 text_there b i w cs e =
     let size : i + length w - i ≡ length w = omega arith in
@@ -84,7 +84,7 @@ sign_stands (bare.File direction.CopyOut) r = record { is = refl; redirects_is =
 sign_stands (bare.Here true d) r = record { is = refl; redirects_is = refl; angle = refl; digits = refl; opens_none = refl; split_none = (unsplit (60 ∷ 60 ∷ 45 ∷ 32 ∷ r) 3 (unjoined 32 r refl)); front_is = front_none _ _ refl refl refl; leads = λ g. operator_leads g (60 ∷ 60 ∷ 45 ∷ 32 ∷ r) op.HereDocTabs 3 refl (unsplit (60 ∷ 60 ∷ 45 ∷ 32 ∷ r) 3 (unjoined 32 r refl)) refl }
 sign_stands (bare.Here false d) r = record { is = refl; redirects_is = refl; angle = refl; digits = refl; opens_none = refl; split_none = (unsplit (60 ∷ 60 ∷ 32 ∷ r) 2 (unjoined 32 r refl)); front_is = front_none _ _ refl refl refl; leads = λ g. operator_leads g (60 ∷ 60 ∷ 32 ∷ r) op.HereDoc 2 refl (unsplit (60 ∷ 60 ∷ 32 ∷ r) 2 (unjoined 32 r refl)) refl }
 
--- what stands at the redirection
+-- what is at the redirection
 abbrev pub redirection_text : Option Text → Opens → List ℕ → List ℕ
 redirection_text number o r = number_text number ++ (opens_text o ++ 32 ∷ r)
 

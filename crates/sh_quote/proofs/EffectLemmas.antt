@@ -159,7 +159,7 @@ module _ (numbers : Bool) where
     };
   }
 
-  -- what the expansion of a good word leaves behind
+  -- what the expansion of a good word leaves
   pub expands : (f : Frame) (status : ℕ) (c : Context) (w : p.Word) (e : Environment) (given : ℕ → Given) → WordGood numbers w → EnvironmentGood numbers e
       → StateGood (expand f status c w (fresh e given)).state
   unfolding CopiesGood

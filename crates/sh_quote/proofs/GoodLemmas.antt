@@ -83,7 +83,7 @@ module _ (numbers : Bool) where
       go true k = k refl
       go false k = word_assigns_none w
 
-  -- no word of the list assigns IFS, where that counts
+  -- no word of the list assigns IFS, if that counts
   abbrev NoneAssigns : List p.Word → Type 0
   NoneAssigns ws = numbers ≡ true → list_any (word_assigns is_ifs) ws ≡ false
 
@@ -278,7 +278,7 @@ module _ (numbers : Bool) where
   for_words_good p.every_parameter h q k = tt
   for_words_good (p.listed ws) h q k = split_words_good ws h q k
 
-  -- what the rules ask of a command of this kind
+  -- what the rules require of a command of this kind
   record Asked (x : Surroundings) (kind : p.Kind) : Type 0 where
     places : flat_map (word_places numbers) (split_words (p.command 0 0 kind p.no_redirects)) ≡ []
     steady : numbers ≡ true → steady_kind kind ≡ true

@@ -31,7 +31,7 @@ told_once q false at = word_place q at Q1 [] is_word
 -- The words that are split are among all words
 
 module _ (q : Place) (f : Word → List Place) where
-  -- how often the place is told of words
+  -- how often the place is reported of words
   told : List Word → ℕ
   told ws = times q (flat_map f ws)
 
@@ -65,7 +65,7 @@ module _ (q : Place) (whole : Bool) where
   own : p.Command → List Place
   own c = flat_map (word_places whole) (split_words c)
 
-  -- how often the place is told of commands
+  -- how often the place is reported of commands
   nested : List Located → ℕ
   nested ls = times q (flat_map (λ (l : Located). own l.command) ls)
 
@@ -106,14 +106,14 @@ module _ (q : Place) (whole : Bool) where
   fewer : (a b : List Place) (c : List Located) (e : List Spot) → times q a ≤ times q b → times q b + nested c ≤ hits q e → times q a + nested c ≤ hits q e
   fewer a b c e h k = omega arith
 
-  -- of places, and of commands before or behind their own
+  -- of places, and of commands before or after their own
   own_then : (a : List Place) (c d : List Located) (e f : List Spot) → times q a + nested c ≤ hits q e → nested d ≤ hits q f → times q a + nested (c ++ d) ≤ hits q (e ++ f)
   own_then a c d e f h k = let y = nested_join c d in let z = hits_join q e f in omega arith
 
   own_behind : (a : List Place) (c d : List Located) (e f : List Spot) → nested c ≤ hits q e → times q a + nested d ≤ hits q f → times q a + nested (c ++ d) ≤ hits q (e ++ f)
   own_behind a c d e f h k = let y = nested_join c d in let z = hits_join q e f in omega arith
 
-  -- of a place, and of what stands in its expansion
+  -- of a place, and of what is in its expansion
   place_then : (s : Spot) (a : List Place) (c : List Located) (f : List Spot) → times q a ≤ hits q (s ∷ []) → nested c ≤ hits q f → times q a + nested c ≤ hits q (s ∷ f)
   place_then s a c f h k = let z = hits_cons q s f in omega arith
 
@@ -123,7 +123,7 @@ module _ (q : Place) (whole : Bool) where
   no_place : (s : Spot) → times q [] + nested [] ≤ hits q (s ∷ [])
   no_place s = let a = times_none q in let b = nested_none in omega arith
 
-  -- of a command: its own places, and what stands in it
+  -- of a command: its own places, and what is in it
   command_whole : (s : Spot) (l : Located) (c d : List Located) (e f : List Spot) → times q (own l.command) + nested c ≤ hits q e → nested d ≤ hits q f → nested (l ∷ (c ++ d)) ≤ hits q (s ∷ (e ++ f))
   command_whole s l c d e f h k =
       let x = nested_cons l (c ++ d) in let y = nested_join c d in let z = hits_cons q s (e ++ f) in let w = hits_join q e f in omega arith

@@ -1,4 +1,4 @@
--- What a part of a word is to field splitting, by the program that it stands for.
+-- What a part of a word is to field splitting, by the program that it means.
 use Rattle.std.proofs.Common.{◌≡◌, ℕ, Bool, true, false, ◌&&◌, ◌||◌, List, [], ◌∷◌, Some, None, refl, ap, ap₂, ◌∙◌}
 use Rattle.std.specs.List.{list_all}
 use Rattle.sh_tree.specs.declared.tree.Action.{Action}
@@ -157,7 +157,7 @@ number-Remove b s r w = ap (quoting.gives_number (trees.parameter_of b s)) (rule
 
 pub ruleset numbers = (number-Value, number-Length, number-Use, number-Remove)
 
--- what is told of a part
+-- what is reported of a part
 
 pub part_told-Param : (b : List ℕ) (numbers : Bool) (x : Param)
     → part_told b numbers (part.Param x) ≡ places.told_at ((numbers && number_given b x.subject x.operator) || quoted_alternative b x.operator) x.span.start

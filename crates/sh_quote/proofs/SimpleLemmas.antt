@@ -1,4 +1,5 @@
--- The steps of a simple command leave all good: its words, its redirections and assignments, functions and utilities.
+-- The steps of a simple command leave all good: its words, its redirections and assignments,
+-- functions and utilities.
 use Rattle.std.proofs.Common.{◌≡◌, ◌⊎◌, inl, inr, option_map, ℕ, ◌==◌, ◌+◌, Bool, true, false, not, ◌&&◌, ◌||◌, if◌then◌else◌, Option, Some, None, is_some, unwrap_or, List, [], ◌∷◌, ◌++◌, length, codes, append_assoc, append-nil, nat_le, ◌-◌, refl, sym, ap, subst, ◌∙◌}
 use Rattle.std.specs.List.{list_any, list_all, cons_option}
 use Rattle.std.proofs.lemmas.Bool.{and_parts, and_from, or_parts, or_from, cond_both, false≢true, not-true}
@@ -98,7 +99,7 @@ module _ (numbers : Bool) where
       cases true true n b q g = still_never_splits f status w (fresh e given) _ (places_still w q)
       cases false b n c q g = still_never_splits f status w (fresh e given) _ (places_still w q)
 
-  -- The fields of a word behind the name of a command
+  -- The fields of a word after the name of a command
 
   -- a static word that gives a field is that field
   static_field : (w : p.Word) (t : Text) → static_of w ≡ Some t → some_gives_field w ≡ true → (f : Frame) (status : ℕ) (a : Answer) (e : Environment)
@@ -135,7 +136,7 @@ module _ (numbers : Bool) where
   unfolding static_of
   empty_static w q h n = false≢true (sym n ∙ rw (quotations_no_pattern w q, h) refl)
 
-  -- the fields of a word behind these, and the words that are left behind it, keep IFS steady
+  -- the fields of a word after these, and the words that are left after it, keep IFS steady
   module _ (f : Frame) (status : ℕ) (a : Answer) (e : Environment) (w : p.Word) (left : List p.Word) (stands : text_gives_field w ≡ true) where
     abbrev FieldsIn : Context → List Text
     FieldsIn c = word_fields c a (expand f status c w (fresh e a.given))
@@ -332,7 +333,7 @@ module _ (numbers : Bool) (e : Environment) (f : Frame) (status : ℕ) (ws : Lis
       either_good numbers a.assignment_fails _ _ (λ b. ends_good numbers o.state.environment f h)
       (λ b. goes_good numbers _ f (status_behind o.state status a) next (set_good numbers o.state.environment name (Some (pieces_text o.pieces)) h q) k)
 
-  -- Jumps: the work behind a mark is good
+  -- Jumps: the work after a mark is good
 
   unfoldable MarkGood : Mark → Type 0
   MarkGood no_loop = Unit {0}
@@ -397,7 +398,7 @@ module _ (numbers : Bool) (e : Environment) (f : Frame) (status : ℕ) (ws : Lis
   abbrev Operands : Kind → List Text → Type 0
   Operands k ts = numbers ≡ true → Steady numbers k ts []
 
-  -- where no numbers are counted on, nothing is watched
+  -- if no numbers are counted on, nothing is watched
   unshown : numbers ≡ false → (xs : List (Text × Text)) → ShownGood numbers xs
   unfolding ShownGood
   unshown q [] = tt
@@ -429,7 +430,7 @@ module _ (numbers : Bool) (e : Environment) (f : Frame) (status : ℕ) (ws : Lis
   unfolding special_or_end
   or_end_good vs name ts h = either_good numbers a.special_ends _ _ (λ b. ends_good numbers e f env) (λ b. special_good vs name ts h)
 
-  -- the name of `getopts` is one of the operands behind the first
+  -- the name of `getopts` is one of the operands after the first
   second_good : (t : Text) (ts : List Text) (name : Text) → list_any is_ifs ts ≡ false → o.second_name (t ∷ ts) ≡ Some name → is_ifs name ≡ false
   unfolding o.second_name
   second_good t [] name h q = absurd (none-some name q)
@@ -453,7 +454,7 @@ module _ (numbers : Bool) (e : Environment) (f : Frame) (status : ℕ) (ws : Lis
       go true k = third_good ts name h.0 k
       go false k = second_good t ts name h.0 k
 
-  -- where no numbers are counted on, any environment of good functions is good
+  -- if no numbers are counted on, any environment of good functions is good
   uncounted : numbers ≡ false → (d : Environment) → ((t : Text) (c : p.Command) → d.functions t ≡ Some c → CommandGood numbers c) → EnvironmentGood numbers d
   uncounted q d h = record { ifs = λ n. absurd (false≢true (sym q ∙ n)); functions = h }
 
@@ -506,7 +507,7 @@ module _ (numbers : Bool) (e : Environment) (f : Frame) (status : ℕ) (ws : Lis
   utility_good prefixes kind.Cd ts h = here (changes_directory e a) f a.status (directory_good numbers e a env)
   utility_good prefixes k ts h = here e f a.status env
 
-  -- A simple command behind its words
+  -- A simple command after its words
 
   unfoldable MannerGood : Manner → Type 0
   MannerGood Nameless = Unit {0}

@@ -1,4 +1,5 @@
--- In every run of a program that keeps the rules of quoting, no step splits a value, unless it meets a parameter that is not set.
+-- Let a program keep the rules of quoting. In no run of it does a step split a value, unless it
+-- meets a parameter that is not set.
 use Rattle.std.proofs.Common.{◌≡◌, ℕ, Bool, true, false, ◌||◌, if◌then◌else◌, Option, Some, None, unwrap_or, option_map, List, [], ◌∷◌, ◌++◌, flat_map, refl, sym, ◌∙◌}
 use Rattle.std.specs.List.{list_all}
 use Rattle.std.proofs.lemmas.Bool.{and_parts, and_from}

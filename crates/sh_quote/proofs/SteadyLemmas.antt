@@ -1,4 +1,5 @@
--- IFS stays steady where the rules ask it: the values that assignments and declarations give it, and what an expansion sets.
+-- IFS stays steady where the rules require it: the values that assignments and declarations give
+-- it, and what an expansion sets.
 use Rattle.std.proofs.Common.{◌≡◌, ℕ, ◌+◌, ◌==◌, ◌<◌, Bool, true, false, not, ◌||◌, if◌then◌else◌, Option, Some, None, unwrap_or, option_map, List, [], ◌∷◌, ◌++◌, length, take, drop, codes, bytes_eq, arith, refl, sym, ap, ap₂, subst, ◌∙◌, eqb-true, length-take-le}
 use Rattle.std.proofs.lemmas.Bool.{and_parts, false≢true, true≢false}
 use Rattle.std.proofs.lemmas.Option.{same_Some, none-some}
@@ -96,7 +97,7 @@ joined_steady v w r write h = go (static_of (before_word v w)) refl h
     go None e k = absurd (false≢true k)
     go (Some u) e k = subst (λ x. is_steady (Some x) ≡ true) (sym (text_before v w u r (static_text (before_word v w) u e) write)) k
 
--- a field that an assignment in form writes, with the text of what is behind the front
+-- a field that an assignment in form writes, with the text of what is after the front
 written_steady : (t : Text) (w : p.Word) (r : Text) → is_assignment t ≡ true → ((x : Text) → word_text w ≡ Some x → r ≡ x)
     → steady_assignment (take (name_length t) t, before_word (drop (name_length t + 1) t) w) ≡ true → steady_field (t ++ r) ≡ true
 unfolding steady_assignment steady_definition definition_in

@@ -1,4 +1,5 @@
--- Each step of a process leaves all good: lists, pipelines and compound commands, and with them every piece of work.
+-- Each step of a process leaves all good: lists, pipelines and compound commands, and with them
+-- every piece of work.
 use Rattle.std.proofs.Common.{◌≡◌, ℕ, zero, suc, ◌==◌, Bool, true, false, ◌||◌, if◌then◌else◌, Some, List, [], ◌∷◌, ◌++◌, refl, subst}
 use Rattle.std.proofs.lemmas.Bool.{cond_both}
 use Rattle.std.proofs.lemmas.Option.{same_Some}

@@ -1,4 +1,4 @@
--- The places that are told of a piece of a command, by the pieces one level below it.
+-- The places that are reported of a piece of a command, by the pieces one level below it.
 use Rattle.std.proofs.Common.{◌≡◌, ℕ, Bool, true, false, not, ◌&&◌, if◌then◌else◌, cond, List, [], ◌∷◌, ◌++◌, append-nil, append_assoc, flat_map, filter, is_some, Option, Some, None, refl, sym, ap, ap₂, ◌∙◌, Result, Ok, Err, OnOk}
 use Rattle.sh_tree.specs.declared.place.Place.{Place}
 use Rattle.sh_tree.specs.declared.tree.Branch.{Branch}

@@ -1,4 +1,4 @@
--- What is told by the texts that a table keeps is what the definitions tell.
+-- What is reported by the texts that a table keeps is what the definitions report.
 use Rattle.std.proofs.Common.{◌≡◌, ℕ, Bool, true, false, not, ◌&&◌, ◌||◌, if◌then◌else◌, cond, List, [], ◌∷◌, ◌++◌, append_assoc, append-nil, map, fold, filter, flat_map, codes, drop, Option, Some, None, is_some, unwrap_or, option_map, refl, sym, ap, ap₂, ◌∙◌, Result, Ok, Err, OnOk}
 use Rattle.std.specs.List.{list_any, list_all}
 use Rattle.std.specs.Str.{bytes_eq}
@@ -212,7 +212,7 @@ all_steady x steady (l ∷ ls) h =
     and_grouped true b c = refl
     and_grouped false b c = refl
 
--- what is told
+-- what is reported
 
 declares_one : (x : Static) → declares x ≡ unwrap_or (option_map (λ t. is_declaration (kind_of t)) x) false
 unfolding declares

@@ -63,7 +63,7 @@ module _ (numbers : Bool) where
   RedirectsGood p.no_redirects = Unit {0}
   RedirectsGood (p.more_redirects r rs) = WordGood (opened r) × RedirectsGood rs
 
-  -- an assignment: where it sets IFS, the value is steady
+  -- an assignment: if it sets IFS, the value is steady
   pub record ValueGood (x : Text × p.Word) : Type 0 where
     pub word : WordGood x.1
     pub steady : numbers ≡ true → steady_assignment x ≡ true

@@ -67,7 +67,7 @@ split_kind name _ = []
 unfoldable pub kind_told : List ℕ → Static → Bool → Kind → List Place
 kind_told b name steady k = flat_map (word_places steady) (split_kind name (trees.kind_of b k))
 
--- what a walk keeps: the table, whether numbers stand whole, and the places so far
+-- what a walk keeps: the table, whether numbers are never split, and the places so far
 pub record Kept : Type 0 where
   pub table : Table
   pub steady : Bool

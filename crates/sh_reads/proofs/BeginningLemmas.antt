@@ -49,7 +49,8 @@ only_last f false false true v w x y q z i j k l h = absurd (true≢false (sym h
 only_last f false false false true w x y q z i j k l h = absurd (true≢false (sym h ∙ l))
 only_last f false false false false w x y q z i j k l h = (refl, refl, refl, refl)
 
--- Signs of which no byte of a word comes: its end, tabs that are no part of it, a line continuation, and none of plain bytes
+-- Signs from which no byte of a word comes: its end, tabs that are no part of it, a line
+-- continuation, and none of plain bytes
 
 abbrev pub takes_none : Sign → ℕ → Bool
 takes_none sign.Stop n = true
@@ -135,13 +136,13 @@ unfolding words.backslash is_first
 backslash_ends x [] h = absurd (true≢false (sym h))
 backslash_ends x (c ∷ rest) h = grind (arith, nat_tests)
 
--- a backquote ends a word only where it ends the text
+-- a backquote ends a word only if it ends the text
 backquoted_ends : (x : Context) (c : ℕ) (cs : List ℕ) → (c == 96) ≡ true → ends (words.backquoted x cs) ≡ true → is_last_backquote (c ∷ cs) ≡ true
 unfolding words.backquoted is_last_backquote
 backquoted_ends x c [] is h = is
 backquoted_ends x c (d ∷ cs) is h = grind (arith, nat_tests)
 
--- what does not stand for itself ends a word only where it is such a backslash, or a backquote that ends the text
+-- what is not literal ends a word only if it is such a backslash, or a backquote that ends the text
 meant_ends : (x : Context) (i c : ℕ) (cs : List ℕ) → ends (words.meant_by x i c cs) ≡ true → ((is_backslash c && is_first is_newline cs) || is_last_backquote (c ∷ cs)) ≡ true
 unfolding words.meant_by
 meant_ends x i c cs h = grind (arith, nat_tests, backslash_ends x cs, single_goes cs, dollar_goes x i cs, backquoted_ends x c cs)
@@ -171,7 +172,7 @@ zero_not : (t : Bool) (n m : ℕ) → 0 < n → cond t n m ≡ 0 → (t ≡ fals
 zero_not true n m some h = absurd (omega arith)
 zero_not false n m some h = (refl, h)
 
--- where no gap stands, neither a blank nor a line continuation begins it
+-- where there is no gap, neither a blank nor a line continuation begins it
 no_gap : (c : ℕ) (cs : List ℕ) → gap_length (c ∷ cs) ≡ 0 → (is_blank c ≡ false) × ((is_backslash c && is_first is_newline cs) ≡ false)
 unfolding gap_length is_first
 no_gap c [] h = ((zero_not (is_blank c) 1 0 (omega arith) h).0, and_right (is_backslash c) false refl)

@@ -1,4 +1,4 @@
--- How often a spot stands in what is read, against how far the reading comes.
+-- How often a spot occurs in what is read, against how far the reading comes.
 use Rattle.std.proofs.Common.{◌≡◌, ℕ, ◌+◌, ◌<◌, ◌≤◌, ◌==◌, Bool, true, false, ◌&&◌, min, max, [], ◌∷◌, nat_lt, refl, ◌∙◌, ⊎_elim, arith}
 use Rattle.std.proofs.lemmas.Bool.{cases_Bool, ltb-true, lt-ltb, eqb-true, le-ltb}
 use Rattle.sh_tree.specs.declared.place.Place.{Place}
@@ -6,7 +6,7 @@ use Rattle.sh_reads.specs.Spots.{OfCommand, OfWord}
 use Rattle.sh_reads.proofs.HitLemmas.{one, is_of_command, hits, hits_of_word, hits_of_command}
 
 module _ (q : Place) where
-  -- one where the place stands before the offset n in so many bytes
+  -- one if the place is before the offset n in so many bytes
   pub below : ℕ → ℕ → ℕ
   below long n = one (nat_lt q.at (min n long))
 
@@ -60,11 +60,12 @@ module _ (q : Place) where
       (λ other. let grows = below_at q.at (min i long) (min e long) (omega arith) in rw other (omega arith))
       (cases_Bool (q.at == i))
 
-  -- what stands at the start of a command is no spot of its words
+  -- what is at the start of a command is no spot of its words
   abbrev pub slack : ℕ
   slack = one (is_of_command q.code)
 
-  -- in what is read from i to j the spot stands h times, and k more or fewer times in the here-documents of c and c' operators
+  -- in what is read from i to j the spot occurs h times; in the here-documents of c and c'
+  -- operators it occurs k more or fewer times
   pub record Spans (long i j h c c' : ℕ) : Type 0 where
     pub moves : i ≤ j
     pub bound : (m : ℕ) → m ≤ i + slack → h + c + below long m ≤ c' + below long (max m j)
@@ -116,7 +117,8 @@ module _ (q : Place) where
           let grows = below_grows long e (max m e) (omega arith) in
           omega arith
 
-  -- in what is read from i to j the spot stands h times, where the here-documents that come have it ku - ks times, and those of the operators cu - cs times
+  -- let the here-documents that come have the spot ku - ks times, and those of the operators cu -
+  -- cs times; in what is read from i to j it occurs h times
   pub record Step (long i j h ks cs ku cu : ℕ) : Type 0 where
     pub moves : i ≤ j
     pub bound : h + ku + cs + below long i ≤ ks + cu + below long j
@@ -160,7 +162,7 @@ module _ (q : Place) where
     bound = (let b = s.bound in let own = own_below long i j inside more in let most = own_most i in omega arith);
   }
 
-  -- a simple command, whose first word stands where it does
+  -- a simple command, whose first word is where it is
   pub step_simple : {long i n h c c' ks : ℕ} → i < long → i < n → Spans long i n h c c' → Step long i n (hits q (OfCommand i ∷ []) + h) ks c ks c'
   step_simple {long = long} {i = i} {n = n} {h = h} {c = c} {c' = c'} {ks = ks} inside more s = record { moves = s.moves; bound = go (is_of_command q.code) refl }
     where
@@ -178,7 +180,7 @@ module _ (q : Place) where
           let grows = below_grows long (max i n) n (omega arith) in
           omega arith
 
-  -- the commands of a substitution, behind its first bytes
+  -- the commands of a substitution, after its first bytes
   pub spans_inner : {long i j n c : ℕ} (h : ℕ) → i < long → i < j → j ≤ n → h + below long j ≤ below long n → Spans long i (n + 1) (hits q (OfWord i ∷ []) + h) c c
   spans_inner {long = long} {i = i} {j = j} {n = n} {c = c} h inside more moves inner = record { moves = omega arith; bound = λ m k. go (is_of_command q.code) refl m k }
     where

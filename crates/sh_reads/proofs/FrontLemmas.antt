@@ -1,4 +1,4 @@
--- What a text says at a place, said of a longer text of which it is the front: the names that stand there.
+-- What a text says at a place, said of a longer text whose front it is: the names that are there.
 use Rattle.std.proofs.Common.{◌≡◌, ℕ, suc, ◌+◌, ◌-◌, ◌<◌, ◌≤◌, Bool, true, List, [], ◌∷◌, length, take, drop, min, refl, sym, ap, ◌∙◌, ⊎_elim, arith, length-take}
 use Rattle.std.specs.List.{list_all, take_while, prefix_len}
 use Rattle.std.proofs.lemmas.Bool.{cases_Bool, cases_lt, cond-true, cond-false, true≢false, and_from, or_left}
@@ -12,7 +12,7 @@ use Rattle.sh_tree.specs.standard.Tree.{text_of}
 abbrev pub Front : List ℕ → List ℕ → Type 0
 Front whole b = (m : ℕ) × (b ≡ take m whole)
 
--- the text stands in the whole from i on
+-- the text is in the whole from i on
 abbrev pub Stands : List ℕ → ℕ → List ℕ → Type 0
 Stands whole i cs = (k : ℕ) × (cs ≡ take k (drop i whole))
 
@@ -84,7 +84,7 @@ name_takes (c ∷ cs) h =
     let long : run is_name_byte (c ∷ cs) ≡ suc (run is_name_byte cs) = ap length more in
     omega arith
 
--- where a name begins, a name stands up to its end
+-- where a name begins, a name is there up to its end
 pub name_stands : (whole : List ℕ) (i : ℕ) (cs : List ℕ) → Stands whole i cs → is_first is_name_start cs ≡ true → is_name (text_of whole (span i (i + name_length cs))) ≡ true
 name_stands whole i cs h first =
     let n = name_run cs first in

@@ -1,4 +1,4 @@
--- Behind blanks stand none, wherever they are read.
+-- After blanks there are none, wherever they are read.
 use Rattle.std.proofs.Common.{◌≡◌, ℕ, suc, ◌+◌, Bool, true, not, ◌&&◌, List, [], ◌∷◌, length, drop, refl, sym, ap, subst, ◌∙◌, ⊎_elim, arith}
 use Rattle.std.proofs.lemmas.Bool.{cases_Bool, cond-true, cond-false, eqb-true}
 use Rattle.std.proofs.lemmas.List.{drop-drop}
@@ -61,7 +61,7 @@ blank_gap joins cs =
     ap (λ n. gap_length (drop n cs)) whole ∙ gap_settles cs)
     (cases_Bool (is_comment joins rest))
 
--- a token stands there: no blank and no line continuation
+-- a token is there: no blank and no line continuation
 pub blanks_gap : (joins : Bool) (b : List ℕ) (i : ℕ) → gap_length (drop (blanks joins b i) b) ≡ 0
 unfolding blanks
 blanks_gap joins b i = ap gap_length (sym (drop-drop (blank_length joins (drop i b)) i b)) ∙ blank_gap joins (drop i b)

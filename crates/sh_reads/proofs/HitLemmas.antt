@@ -1,4 +1,4 @@
--- How often the spot of a place stands in a list, and that it stands once.
+-- How often the spot of a place occurs in a list, and that it occurs once.
 use Rattle.std.proofs.Common.{◌≡◌, ℕ, zero, suc, ◌+◌, ◌<◌, ◌≤◌, ◌==◌, Bool, true, false, not, ◌&&◌, cond, nat_lt, List, [], ◌∷◌, ◌++◌, length, get_or, ◌⊎◌, inl, inr, refl, sym, ◌∙◌, ap, subst, arith, eqb-true, eq-eqb, true≢false}
 use Rattle.std.specs.List.{Contains, list_all}
 use Rattle.std.proofs.lemmas.Bool.{and_from, and_parts, cases_Bool, lt-ltb}
@@ -8,7 +8,7 @@ use Rattle.sh_tree.specs.declared.place.Code.TheVariants.{P1, P2, U1}
 use Rattle.sh_tree.specs.declared.place.Place.{Place}
 use Rattle.sh_reads.specs.Spots.{Spot, OfCommand, OfWord, EachOnce, offset_of}
 
--- one where it is so
+-- one if it is so
 abbrev pub one : Bool → ℕ
 one b = cond b 1 0
 
@@ -17,7 +17,7 @@ is_of_command P1 = true
 is_of_command P2 = true
 is_of_command _ = false
 
--- where the place is told
+-- where the place is reported
 spot_of_place : ℕ → Bool → Spot
 spot_of_place at true = OfCommand at
 spot_of_place at false = OfWord at
@@ -27,7 +27,7 @@ is_there at b (OfCommand k) = (at == k) && b
 is_there at true (OfWord k) = false
 is_there at false (OfWord k) = at == k
 
--- how often the place's spot stands in the list
+-- how often the place's spot occurs in the list
 unfoldable pub hits : Place → List Spot → ℕ
 hits q [] = 0
 hits q (s ∷ ss) = one (is_there q.at (is_of_command q.code) s) + hits q ss
@@ -57,7 +57,7 @@ pub hits_of_command : (q : Place) (i : ℕ) → hits q (OfCommand i ∷ []) ≡ 
 unfolding hits is_there
 hits_of_command q i = omega arith
 
--- a place that would be told at the spot
+-- a place that would be reported at the spot
 place_at : Spot → Place
 place_at (OfCommand i) = record { at = i; code = P1; subject = [] }
 place_at (OfWord i) = record { at = i; code = U1; subject = [] }
@@ -79,7 +79,7 @@ hits_some s ss h = go ss h.0 h.1 h.2
         omega arith
     go (z ∷ zs) (suc k) l e = let there = go zs k (omega arith) e in omega arith
 
--- where no spot is counted twice, each stands once
+-- if no spot is counted twice, each occurs once
 pub spots_from_hits : (ss : List Spot) → ((q : Place) → hits q ss ≤ 1) → EachOnce ss
 unfolding EachOnce hits
 spots_from_hits [] h = tt
@@ -123,7 +123,7 @@ hits_one at b q (s ∷ ss) e f h = elim (cases_Bool (is_there at b s)) [
       (suc rest.0, omega arith, rest.2)
 ]
 
--- where each spot stands once, that of a place is counted once
+-- if each spot occurs once, that of a place is counted once
 pub spots_once : (q : Place) (ss : List Spot) → EachOnce ss → hits q ss ≤ 1
 unfolding EachOnce hits
 spots_once q [] h = omega arith

@@ -1,7 +1,9 @@
--- Each spot of a program that is read stands once: a case for each production.
+-- Each spot of a program that is read occurs once: a case for each production.
 --
--- Offsets do not rise along a program, since the body of a here-document stands behind the line of its operator. So a spot is counted: in what is read it stands no
--- more often than the reading passes it and the bodies of its operators have it, less what the bodies have that come meanwhile.
+-- Offsets do not rise along a program, since the body of a here-document is after the line of its
+-- operator. So a spot is counted. In what is read it occurs at most as often as the reading passes
+-- it and the bodies of its operators have it. What the bodies have that come meanwhile is taken
+-- off.
 use Rattle.std.proofs.Common.{◌≡◌, ℕ, zero, suc, ◌+◌, ◌-◌, Bool, true, false, if◌then◌else◌, Option, List, [], ◌∷◌, ◌++◌, drop, refl, sym, ap, subst, ◌∙◌, ◌<◌, ◌≤◌, min, max, length, take, le_refl, le_trans, arith, length-append, length-take}
 use Rattle.sh_tree.specs.declared.tree.AndOr.{AndOr}
 use Rattle.sh_tree.specs.declared.tree.Binary.{Binary}
@@ -90,7 +92,7 @@ patterns_keep (r.more_patterns h w k ws) = patterns_keep ws
 module _ (whole : List ℕ) (q : Place) where
   -- Here-documents
 
-  -- how often the spot stands in a body
+  -- how often the spot occurs in a body
   abbrev in_body : Document → ℕ
   in_body d = hits q (word_spots (parts_from whole d.text.parts))
 
@@ -156,7 +158,7 @@ module _ (whole : List ℕ) (q : Place) where
   either_goes b body true r s u h k = h
   either_goes b body false r s u h k = k
 
-  -- to the token at or behind i
+  -- to the token at or after i
   goes_next : (b : List ℕ) (body : ℕ → Document) (i : ℕ) (s : State) → s.spot.at ≤ i → Goes b body s (next b i s) 0
   goes_next b body i s h = step_none q (le_trans h (blanks_move s.spot.joins b i))
 
@@ -505,7 +507,7 @@ module _ (whole : List ℕ) (q : Place) where
         let none = count_no_redirects q in
         rw (command_made whole (s.spot.count + 1) s.spot.at (kind.Define name c) [], kind_of-Define whole name c, redirects_from-empty whole) (step_is q (omega arith) own)
 
-    -- behind the first byte of the command
+    -- after the first byte of the command
     compound_goes : {limit : ℕ} {b : List ℕ} {body : ℕ → Document} {l : Lead} {s u : State} {k : Kind} → ReadsCompound limit b body l s u k
         → Step q (length b) (s.spot.at + 1) u.spot.at (hits q (kind_spots (kind_of whole k))) (in_bodies s.bodies) (of_operators body (document_count s)) (in_bodies u.bodies) (of_operators body (document_count u))
     compound_goes {b = b} (r.group {s = s} {u = u} {t = t} d i h) =

@@ -1,4 +1,4 @@
--- Among commands every state stands at a token.
+-- Among commands every state is at a token.
 use Rattle.std.proofs.Common.{◌≡◌, ℕ, ◌+◌, Bool, true, false, if◌then◌else◌, List, Option, drop}
 use Rattle.sh_tree.specs.declared.tree.AndOr.{AndOr}
 use Rattle.sh_tree.specs.declared.tree.Branch.{Branch}
@@ -20,7 +20,7 @@ use Rattle.sh_tree.specs.standard.language.Reading as r
 use Rattle.sh_tree.specs.standard.language.Reading.{lead_here, skip, behind_name, parted, ReadsRedirect, ReadsRedirects, ReadsBreaks, ReadsElements, ReadsCommand, ReadsCompound, ReadsDo, ReadsBranches, ReadsElse, ReadsForWords, ReadsWords, ReadsClauses, ReadsPipeline, ReadsCommands, ReadsAndOr, ReadsLinks, ReadsItems, ReadsList}
 use Rattle.sh_reads.proofs.GapLemmas.{blanks_gap}
 
--- neither a blank nor a line continuation stands there
+-- neither a blank nor a line continuation is there
 abbrev pub IsSettled : List ℕ → Spot → Type 0
 IsSettled b s = gap_length (drop s.at b) ≡ 0
 

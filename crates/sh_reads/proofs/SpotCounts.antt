@@ -1,4 +1,4 @@
--- How often a spot stands in a piece of a program, by the pieces in it.
+-- How often a spot occurs in a piece of a program, by the pieces in it.
 use Rattle.std.proofs.Common.{◌≡◌, ℕ, ◌+◌, Bool, List, [], ◌∷◌, ◌++◌, Option, refl, ap, ◌∙◌}
 use Rattle.sh_tree.specs.declared.place.Place.{Place}
 use Rattle.sh_tree.specs.declared.tree.Action.{Action}

@@ -110,7 +110,7 @@ meant_takes : (x : Context) (i c : ℕ) (cs : List ℕ) → is_idle (words.meant
 unfolding words.meant_by
 meant_takes x i c cs = grind (arith, nat_tests, backslash_takes x cs, single_takes cs, dollar_takes x i cs, backquoted_takes x cs)
 
--- a tilde that does not stand for itself begins a tilde-prefix
+-- a tilde that is not literal begins a tilde-prefix
 tilde_plain : (s : Site) (c : ℕ) → (c == 126) ≡ true → words.is_special s c ≡ false
 tilde_plain site.Word c h = grind (arith, nat_tests)
 tilde_plain site.Double c h = grind (arith, nat_tests)
@@ -158,7 +158,7 @@ sign_of_takes x prior i (c ∷ cs) h =
     go true n h k = grind (arith, nat_tests)
     go false n h k = absurd (true≢false (sym h))
 
--- where a part begins stands a byte of it
+-- where a part begins there is a byte of it
 pub token_takes : (b : List ℕ) (x : Context) (prior i : ℕ) → is_part (words.token b x prior i).sign ≡ true → (i < (words.token b x prior i).end) × (i < length b)
 unfolding words.token
 token_takes b x prior i h =

@@ -1,4 +1,4 @@
--- From what is told of a certificate to what a check answers.
+-- From what is reported of a certificate to what a check answers.
 use Rattle.std.proofs.Common.{◌≡◌, ℕ, true, List, ◌++◌, Result, Ok, Err, IfOk, sym, subst}
 use Rattle.sh_tree.specs.declared.limits.TheConstants.{MAX_NESTING}
 use Rattle.sh_tree.specs.declared.refusal.Refusal.{Refusal}
@@ -34,7 +34,7 @@ module _ (b : List ℕ) (d : Declared) where
   pub forges : (t : Script) (c : Sheet) (k : ℕ) (f : FlowRule) → Flows b d t c (Rule k f) → Judges b d t c (Forged k f)
   forges t c k f h = h
 
-  -- none is, and what is told of the places
+  -- none is, and what is reported of the places
   pub keeps : {E : Type 0} (t : Script) (c : Sheet) (ps : List Place) (r : Result Verdict E) → FindsPlaces b d t c ps → IfOk r (TellsPlaces b (ps ++ unquoted (script_of b t))) → IfOk r (Judges b d t c)
   keeps t c ps (Err e) h k = tt
   keeps t c ps (Ok v) h k = go v (subst (λ qs. TellsPlaces b (qs ++ unquoted (script_of b t)) v) h.1 k)
@@ -49,7 +49,7 @@ module _ (b : List ℕ) (d : Declared) where
   answers text t c (Fail r) h j = (parts_always_answer b d text).fails t c r h j.0 j.1 j.2
   answers text t c (Forged n f) h j = (parts_always_answer b d text).forged t c (record { number = n; rule = f }) h j
 
-  -- want of memory
+  -- out of memory
   pub exhausted : (text : Text) (p : Prepared) (e : Refusal) → IsPrepared b d p → e ≡ Memory → Checks b d text (Err e)
   exhausted text p e i h = subst (λ x. Checks b d text (Err x)) (sym h) i.admitted.reading.0
 

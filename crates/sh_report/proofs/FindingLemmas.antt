@@ -1,4 +1,4 @@
--- From the findings in order to what is told of places.
+-- From the findings in order to what is reported of places.
 use Rattle.std.proofs.Common.{◌≡◌, ℕ, ◌<◌, List, [], ◌∷◌, length, map, Result, Ok, Err, Vec, refl, sym, ◌∙◌, subst, arith, IfOk}
 use Rattle.std.specs.declared.alloc.Global.{Global}
 use Rattle.std.proofs.lemmas.List.Sorted.{IsPermutation-map, length_permutation}
@@ -11,7 +11,7 @@ use Rattle.sh_answers.specs.declared.verdict.Finding.{Finding}
 use Rattle.sh_answers.specs.declared.verdict.Verdict.TheVariants.{Fail}
 use Rattle.sh_report.specs.Told.{TellsPlaces}
 
--- sorted findings of the same contents, where the sort was not refused memory
+-- sorted findings of the same contents, if the sort was not refused memory
 pub sorted_findings : {E : Type 0} (b : List ℕ) (ps : List Place) (fs : List Finding) (r : Result (Vec Finding Global) E) → map contents_of fs ≡ map (contents_at b) ps
     → IfOk r (λ v. IsPermutation fs v.items) → IfOk r (λ v. IsSortedByKey contents_of contents_cmp v.items) → IfOk r (λ v. AreFindings b ps v.items)
 sorted_findings b ps fs (Ok v) e p s = record {

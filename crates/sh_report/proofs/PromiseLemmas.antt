@@ -38,7 +38,7 @@ zero_is_pass (Err (Profile rule at)) e = cc
 zero_is_pass (Err (CertSyntax line)) e = cc
 zero_is_pass (Err CertShape) e = cc
 
--- what is told with zero promises so
+-- what is reported with zero promises so
 pub told_safe : (a : Action) (b certificate : List ℕ) (d : Declared) (text : List ℕ) (status : ℕ) → list_all is_name d.names ≡ true → Tells a b certificate d text status
     → ((full : Bool) → a ≡ Cert full → ⊥) → (a ≡ Print → ⊥) → status ≡ 0 → IsSafe b d
 told_safe Lint b certificate d text status names tells shown printed is = linted b d tells.answer names tells.answers (zero_is_pass tells.answer (sym tells.status_is ∙ is))

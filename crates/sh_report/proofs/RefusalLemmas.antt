@@ -28,7 +28,7 @@ module _ (b : List ℕ) (d : Declared) where
   unread P (CertSyntax n) h = absurd h
   unread P CertShape h = absurd h
 
-  -- a script whose table is refused: want of memory
+  -- a script whose table is refused: out of memory
   pub untabled : (P : Refusal → Type 0) (t : Script) (e : Refusal) → Parses b (Ok t)
       → (length (table_of b t).rows ≤ MAX_COMMANDS → e ≡ Memory) → Refuses b d P e
   untabled P t e p h = go e (h (read_has_few_commands b t p.1))

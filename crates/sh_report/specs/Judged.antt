@@ -12,7 +12,7 @@ use Rattle.sh_answers.specs.declared.verdict.Verdict.TheVariants.{Pass, Fail, Fo
 use Rattle.sh_domain.specs.Admitted.{KeepsRules, claims_in}
 use Rattle.sh_accept.specs.Answers.{places}
 
--- the least fault, or where there is none the findings, or where there is no place either a pass
+-- the least fault; or the findings, if there is no fault; or a pass, if there is no place either
 abbrev pub Judges : List ℕ → Declared → Script → Sheet → Verdict → Type 0
 Judges b d t c Pass = KeepsRules b d t c × (places b d t c ≡ [])
 Judges b d t c (Fail r) = KeepsRules b d t c × (0 < length r.findings.items) × AreFindings b (places b d t c) r.findings.items

@@ -68,7 +68,7 @@ all-from_within (x ∷ xs) ys h =
     or_true true = refl
     or_true false = refl
 
--- in a rising list the number at i stands nowhere else
+-- in a rising list the number at i occurs nowhere else
 rising_lt : (xs : List ℕ) → IsStrictlyIncreasing xs → (i j : ℕ) → i < j → j < length xs → get_or xs i 0 < get_or xs j 0
 rising_lt xs r i zero lt len = absurd (omega arith)
 rising_lt xs r i (suc j) lt len =
@@ -105,7 +105,7 @@ add_changes-nothing k n xs there =
     (λ (e : eqb k n ≡ false). sym (ap (λ b. b || has_number k xs) e))
     (cases_Bool (eqb k n))
 
--- where a number would stand it does not
+-- where a number would be, it is not
 pub has_number-would : (n : ℕ) (xs : List ℕ) (i : ℕ) → ((k : ℕ) → k < i → get_or xs k 0 < n) → ((k : ℕ) → i ≤ k → k < length xs → n < get_or xs k 0) → has_number n xs ≡ false
 has_number-would n xs i low high =
     has_number-none n xs (λ k lt e. ⊎_elim

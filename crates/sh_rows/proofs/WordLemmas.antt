@@ -281,7 +281,7 @@ has_bit-copied old new other same none k =
     rw test (ap (λ w. eqb (bit_at w (k % 64)) 1) (none (k / 64) h) ∙ ap (λ b. eqb b 1) (bit_at-zero (k % 64))))
     (cases_lt (k / 64) (length old))
 
--- words of which the front is within: the test of the others tests them all
+-- words whose front is within: the test of the others tests them all
 pub within_whole : (words other front : List ℕ) (shared at : ℕ) (b : Bool) → IsBeside words other front shared → at ≤ shared
     → AllWithin words (λ k. get_or front k 0) 0 at → (b ≡ true) ↔ AllWithin words (λ k. get_or other k 0) at (length words)
     → (b ≡ true) ↔ ((k : ℕ) → without (get_or words k 0) (get_or other k 0) ≡ 0)
@@ -296,7 +296,7 @@ within_whole words other front shared at b is le front_is rest = (
   λ all. rest.1 (λ k low high. all k),
 )
 
--- and of which it is not: they are not
+-- and words whose front is not: they are not
 pub not_within_whole : (words other front : List ℕ) (shared : ℕ) → IsBeside words other front shared
     → ¬ (AllWithin words (λ k. get_or front k 0) 0 (length front))
     → ((k : ℕ) → without (get_or words k 0) (get_or other k 0) ≡ 0) → ⊥
@@ -320,7 +320,7 @@ has_bit-zeros n k = ap (λ w. eqb (bit_at w (k % 64)) 1) (zeros n (k / 64)) ∙ 
     zeros (suc m) zero = refl
     zeros (suc m) (suc i) = zeros m i
 
--- another bit than n, where a word was written that differs in bit n alone
+-- another bit than n, if a word was written that differs in bit n alone
 other_bit : (words : List ℕ) (n k made : ℕ) → (k ≡ n → ⊥)
     → ((i : ℕ) → i < 64 → i ≢ n % 64 → bit_at made i ≡ bit_at (get_or words (n / 64) 0) i)
     → eqb (bit_at (get_or (set words (n / 64) made) (k / 64) 0) (k % 64)) 1 ≡ eqb (bit_at (get_or words (k / 64) 0) (k % 64)) 1
@@ -493,7 +493,7 @@ bits_within words other b small narrow test = (
   λ bits. test.1 (without-from_bits words other small narrow bits),
 )
 
--- what is within a piece and what is behind it
+-- what is within a piece and what is after it
 pub AllWithin-more : (words : List ℕ) (beside here : ℕ → ℕ) (from at to : ℕ) → AllWithin words beside from at → AllWithin words here at to
     → ((k : ℕ) → at ≤ k → k < to → here k ≡ beside k) → AllWithin words beside from to
 AllWithin-more words beside here from at to front more same k le lt =

@@ -1,4 +1,4 @@
--- More than is seen asks no less of a certificate below.
+-- More than is seen requires no less of a certificate below.
 use Rattle.std.proofs.Common.{◌≡◌, ℕ, true, List, [], ◌∷◌, ◌++◌, append-nil, fold, refl, sym, ap, ◌∙◌, subst}
 use Rattle.std.specs.List.{list_all}
 use Rattle.std.proofs.lemmas.Bool.{and_parts, and_from}
@@ -97,7 +97,7 @@ module _ (x : Setting) (h : AreNumbered x.names) (d : Facts) (c : Certificate) (
     nothing = within_nowhere _;
   }
 
--- What is asked, one after the other
+-- What is required, one thing after the other
 
 module _ {K : Type 0} (a : Asking K) (x : Setting) (Q : Ask → Type 0) where
   nothing_asked : (kept : K) → Asks a x Q kept kept
@@ -119,7 +119,8 @@ module _ {K : Type 0} (a : Asking K) (x : Setting) (Q : Ask → Type 0) where
   unfolding Each ask
   function_asked function f names kept q = record { asks = OfFunction function f names ∷ []; each = (q, tt); reached = refl }
 
--- what holds of all that is asked, where this holds of each constraint and of what is known where something is seen
+-- what holds of all that is required, if this holds of each constraint and of what is known where
+-- something is seen
 pub record Judges (x : Setting) (d : Facts) (R : Seen → Facts → Type 0) (E : Constraint → Type 0) (Q : Ask → Type 0) : Type 0 where
   pub place : (slot : Slot) (n : ℕ) (rule : FlowRule) (s : Seen) (k : Facts) → R s k → Each E (bound slot n rule s) → Q (OfPlace slot (fault n rule) k)
   pub view : (slot : Slot) (n : ℕ) (rule : FlowRule) (v : View) → E (Within slot n rule v) → Q (OfPlace slot (fault n rule) (knows x d (v ∷ [])))

@@ -1,4 +1,4 @@
--- What is known behind a piece of a tree, by the pieces one level below it.
+-- What is known after a piece of a tree, by the pieces one level below it.
 use Rattle.std.proofs.Common.{◌≡◌, ℕ, zero, suc, ◌<◌, Bool, true, false, not, ◌&&◌, true≢false, Option, Some, None, is_some, unwrap_or, List, [], ◌∷◌, length, get_or, drop, fold, refl, sym, ap, ◌∙◌, arith}
 use Rattle.sh_tree.specs.declared.tree.AndOr.{AndOr, out-AndOr}
 use Rattle.sh_tree.specs.declared.tree.Command.{Command, out-Command}

@@ -1,4 +1,4 @@
--- What the flow rules ask of a compound command over views is what they ask over facts.
+-- What the flow rules require of a compound command over views is what they require over facts.
 use Rattle.std.proofs.Common.{true≢false, ◌≡◌, ℕ, Bool, true, false, ◌&&◌, ◌||◌, List, [], ◌∷◌, ◌++◌, if◌then◌else◌, refl, sym, ap, ap₂, ◌∙◌}
 use Rattle.std.specs.Str.{bytes_eq}
 use Rattle.sh_tree.specs.declared.tree.LoopKind.{LoopKind}
@@ -54,7 +54,7 @@ module _ (x : Setting) (h : AreNumbered x.names) (d : Facts) where
   abbrev i : Interprets x (knows x d)
   i = interprets x h d
 
-  -- behind lists
+  -- after lists
   abbrev pub left : After → Behind
   left o = behind_of x (knows x d) (interprets x h d) o
 
@@ -70,7 +70,7 @@ module _ (x : Setting) (h : AreNumbered x.names) (d : Facts) where
   pub slot_at : (s : Slot) → known_at x s ≡ known (at s)
   slot_at s = sym (i.slot s)
 
-  -- behind loops, and a definition
+  -- after loops, and a definition
 
   ends_same : (k : LoopKind) (o : After) → ends k (left o) ≡ known (e.ends k o)
   unfolding ends e.ends

@@ -1,4 +1,4 @@
--- What is known behind a call of a function, whether or not the certificate has it.
+-- What is known after a call of a function, whether or not the certificate has it.
 use Rattle.std.proofs.Common.{◌≡◌, ℕ, Bool, true, false, not, ◌&&◌, ◌||◌, if◌then◌else◌, List, drop, codes, refl, sym, ap, ap₂, ◌∙◌}
 use Rattle.std.specs.Str.{bytes_eq}
 use Rattle.sh_tree.specs.declared.tree.Element.{Element}

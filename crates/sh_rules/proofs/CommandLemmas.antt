@@ -1,4 +1,4 @@
--- What the flow rules ask of a command over views is what they ask over facts.
+-- What the flow rules require of a command over views is what they require over facts.
 use Rattle.std.proofs.Common.{◌≡◌, ℕ, Bool, true, false, not, ◌&&◌, Option, Some, None, List, [], ◌∷◌, ◌++◌, if◌then◌else◌, map, filter, codes, refl, sym, ap, ap₂, ◌∙◌}
 use Rattle.std.specs.List.{list_all}
 use Rattle.std.specs.Str.{bytes_eq}
@@ -48,7 +48,7 @@ unfolding among claims
 claimed_once ns NotReached t named = refl
 claimed_once ns (Known v f a) t named = ap (λ b. b && v t) named
 
--- what is known behind the words is what is seen there
+-- what is known after the words is what is seen there
 known_same_at : (x : Setting) (d : Facts) (g : Gains) (s : Slot) (k : Facts) (t : Text) → k ≡ knows x d (gaining g (at s)) → is_one_of x.names t ≡ true
     → claims k (Variable t) ≡ claims (with_gains g (facts ((certificate x).claim s))) (Variable t)
 unfolding knows seen_facts steps source_facts step
@@ -63,7 +63,7 @@ module _ {K : Type 0} (a : Asking K) (x : Setting) (h : AreNumbered x.names) (d 
     abbrev all_counted : K → List Loss → K
     all_counted kept ls = g.all kept (map (r.Counted f n) ls)
 
-    -- one loss behind the others
+    -- one loss after the others
     lost_same : (kept : K) (l : Loss) (ls : List Loss) → all_counted kept (l ∷ ls) ≡ all_counted (drops_told a x n f (lost d (certificate x) n l) kept) ls
     lost_same kept l ls = g.joined kept (r.Counted f n l ∷ []) (map (r.Counted f n) ls) ∙ ap (λ b. all_counted b ls) (g.counted f n l kept)
 

@@ -1,4 +1,5 @@
--- The walk over facts keeps what is kept of the commands as they are entered, where what is known there stands for what is seen.
+-- The walk over facts keeps what is kept of the commands as they are entered, if what is known
+-- there represents what is seen.
 use Rattle.std.proofs.Common.{◌≡◌, List, [], ◌++◌, map, fold, refl, sym, ap, ap₂, ◌∙◌}
 use Rattle.std.proofs.lemmas.List.{map-append}
 use Rattle.std.proofs.lemmas.List.Sums.{fold-append}
@@ -28,7 +29,7 @@ pub record Interprets (x : Setting) (knows : Seen → Facts) : Type 0 where
   pub twice : (s : Seen) → meet (knows s) (knows s) ≡ knows s
 
 module _ (x : Setting) (knows : Seen → Facts) (i : Interprets x knows) where
-  -- what is known is what stands for what is seen
+  -- what is known is what represents what is seen
   abbrev Exact : Seen → Facts → Type 0
   Exact s k = k ≡ knows s
 
@@ -46,7 +47,7 @@ module _ (x : Setting) (knows : Seen → Facts) (i : Interprets x knows) where
     nothing = sym i.nothing;
   }
 
-  -- Behind lists
+  -- After lists
 
   unfoldable pub behind_of : After → Behind
   behind_of (Both s) = both (knows s)

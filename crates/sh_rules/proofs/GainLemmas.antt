@@ -77,7 +77,7 @@ pub assigned_known : (c : Claims) (ms : List Text) (k l : Knowledge) (v : Expr) 
 unfolding facts_in setting expression_assigned
 assigned_known c ms k l v e = facts_gained (setting c) ms k l (named (assigned_in (trees.expression_of (setting c).script v))) e
 
--- where nothing is gained nothing changes; one gain behind another
+-- if nothing is gained, nothing changes; one gain after another
 
 pub none_gained : (x : Setting) (f : Facts) → gained x no_gains f ≡ f
 unfolding gained knowing.gained
@@ -97,7 +97,7 @@ pub both_gained : (x : Setting) (g h : Gains) (f : Facts) → gained x (and_gain
 unfolding gained knowing.gained
 both_gained x g h f = ap (λ (z : Knowing). z.facts) (gained_both g h (known x.names f))
 
--- behind operators
+-- after operators
 
 pub inner-Default : (x : Setting) (q : p.Parameter) (f : Facts) → gained x (inner_gains q action.Default) f ≡ f
 unfolding inner_gains

@@ -1,4 +1,5 @@
--- A walk over facts goes over the commands as they are entered, by whatever what is known has to do with what is seen.
+-- A walk over facts goes over the commands as they are entered, by whatever what is known has to do
+-- with what is seen.
 use Rattle.std.proofs.Common.{◌≡◌, ℕ, Bool, true, false, List, [], ◌∷◌, ◌++◌, refl, sym, subst}
 use Rattle.sh_tree.specs.declared.tree.ClauseEnd.{ClauseEnd}
 use Rattle.sh_tree.specs.declared.tree.ClauseEnd.TheVariants as clause
@@ -26,7 +27,8 @@ use Rattle.sh_rules.specs.Walked.{Met, Trail, trail, trail_gained, Course, cours
 use Rattle.sh_rules.specs.Meaning.{met_at}
 use Rattle.sh_rules.proofs.GainLemmas.{none_gained}
 
--- What is known follows what is seen: what this says of the two at a place it says of them behind each step of a walk.
+-- What is known follows what is seen: what this says of the two at a place it says of them after
+-- each step of a walk.
 pub record Follows (x : Setting) (R : Seen → Facts → Type 0) : Type 0 where
   pub slot : (s : Slot) → R (at s) (known_at x s)
   pub gain : (g : Gains) (s : Seen) (k : Facts) → R s k → R (gaining g s) (gained x g k)
@@ -36,12 +38,13 @@ pub record Follows (x : Setting) (R : Seen → Facts → Type 0) : Type 0 where
   pub twice : (s : Seen) (k l : Facts) → R s k → R s l → R s (meet k l)
   pub nothing : R [] NotReached
 
--- behind a list, by its status
+-- after a list, by its status
 pub record Stands (R : Seen → Facts → Type 0) (o : After) (b : Behind) : Type 0 where
   pub zero : R (if_zero o) b.zero
   pub nonzero : R (if_nonzero o) b.nonzero
 
--- What is kept of commands, from what was kept before: nothing changes it where there are none, each does where it is met, and all do one after the other.
+-- What is kept of commands, from what was kept before: nothing changes it if there are none, each
+-- does where it is met, and all do one after the other.
 pub record Leads {K : Type 0} (R : Seen → Facts → Type 0) (w : K → Met → K) (L : List Entered → K → K → Type 0) : Type 0 where
   pub none : (s : K) → L [] s s
   pub one : (y : Entered) (k : Facts) (s : K) → R y.seen k → L (y ∷ []) s (w s (met_at y k))
@@ -57,7 +60,7 @@ pub record Ran {K : Type 0} (R : Seen → Facts → Type 0) (L : List Entered �
   pub kept : L es s c.kept
 
 module _ (x : Setting) (R : Seen → Facts → Type 0) (f : Follows x R) where
-  -- Behind lists
+  -- After lists
 
   pub both_stand : (s : Seen) (k : Facts) → R s k → Stands R (Both s) (both k)
   unfolding if_zero if_nonzero

@@ -1,4 +1,4 @@
--- What is known of numbered names stands for what is seen.
+-- What is known of numbered names represents what is seen.
 use Rattle.std.proofs.Common.{◌≡◌, min, Bool, true, false, not, ◌&&◌, ◌||◌, Option, Some, None, option_map, unwrap_or, List, [], ◌∷◌, ◌++◌, map, filter, fold, refl, sym, ap, ◌∙◌, append_assoc, arith}
 use Rattle.std.specs.Str.{bytes_eq}
 use Rattle.std.proofs.lemmas.Slice.Eq.{bytes_eq-Decides}

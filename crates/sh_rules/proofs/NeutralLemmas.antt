@@ -1,4 +1,4 @@
--- Of utilities that leave what is known behind their words, and do not jump.
+-- Of utilities that leave what is known after their words, and do not jump.
 use Rattle.std.proofs.Common.{◌≡◌, ℕ, true, true≢false, List, refl, sym}
 use Rattle.sh_tree.specs.standard.program.Syntax as p
 use Rattle.sh_table.specs.Profile.{Static}

@@ -123,7 +123,7 @@ unfolding where_taken
 where_fold true x g k ws = kept_fold x g k ws
 where_fold false x g k ws = refl
 
--- what is behind the options of `unset`
+-- what is after the options of `unset`
 unset_operands_of : (ts us : List Static) (l : Letters) → unset_behind no_letters ts ≡ (l, us) → unset_operands (listed ts) ≡ (removal_in l, listed us)
 unset_operands_of ts us l h = unset_told [] ts ∙ ap (λ (p : Letters × List Static). (removal_in p.0, listed p.1)) h
 

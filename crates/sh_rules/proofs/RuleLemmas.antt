@@ -1,4 +1,4 @@
--- A walk that visits each command by the call table tells the least fault of a script.
+-- A walk that visits each command by the call table reports the least fault of a script.
 use Rattle.std.proofs.Common.{◌≡◌, ℕ, ◌≤◌, true, nat_le, List, [], ◌∷◌, length, map, fold, Option, Some, None, refl, sym, ap, ◌∙◌, subst, arith}
 use Rattle.std.specs.List.{list_all}
 use Rattle.std.proofs.lemmas.Bool.{and_parts}
@@ -146,7 +146,7 @@ visits_do_asked a x b t rows numbered few =
     (ap (λ rs. list_all (λ (e : Entered). has_texts rs e.command) (script_entered (script_of b t))) rows ∙ table_texts b t numbered)
     (few_loops_in b t few)
 
--- what a walk over facts tells is the least fault
+-- what a walk over facts reports is the least fault
 told : (x : Setting) (d : Declared) (b : List ℕ) (t : Script) → AreNumbered x.names → x.script ≡ b → x.functions ≡ (table_of b t).functions.names → x.rows ≡ (table_of b t).rows
     → is_numbered (script_of b t) ≡ true → length (table_of b t).rows ≤ MAX_COMMANDS → IsNumbering b t d x.names
     → script_walked x (command_by least_told x) (among x.names (start_facts d)) None (script_of b t) ≡ least (faults (start_facts d) (certificate x) (script_of b t))

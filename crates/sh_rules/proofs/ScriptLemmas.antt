@@ -1,4 +1,5 @@
--- A walk that does at each command what the rules ask of it does what they ask of the script.
+-- A walk that does at each command what the rules require of it does what they require of the
+-- script.
 use Rattle.std.proofs.Common.{◌≡◌, ℕ, true, not, ◌&&◌, if◌then◌else◌, Option, Some, None, List, [], ◌∷◌, ◌++◌, filter, fold, flat_map, map, refl, sym, ap, ap₂, ◌∙◌}
 use Rattle.std.specs.List.{list_all}
 use Rattle.std.proofs.lemmas.Bool.{and_parts}
@@ -32,7 +33,7 @@ use Rattle.sh_rules.proofs.MeaningLemmas.{interprets, start_seen}
 use Rattle.sh_rules.proofs.ToldLemmas.{least_of_constraints}
 use Rattle.sh_rules.proofs.CommandLemmas.{command_same}
 
--- Of the functions of a script nothing is asked but which they are
+-- Of the functions of a script nothing is required but which they are
 
 module _ (fs gs : List Text) (same : (t : Text) → is_one_of fs t ≡ is_one_of gs t) where
   filtered : (ts : List Text) → filter (is_one_of fs) ts ≡ filter (is_one_of gs) ts

@@ -1,4 +1,4 @@
--- What the flow rules ask of a simple command over views is what they ask over facts.
+-- What the flow rules require of a simple command over views is what they require over facts.
 use Rattle.std.proofs.Common.{◌≡◌, ℕ, ◌==◌, Bool, true, false, not, ◌&&◌, ◌||◌, Option, Some, None, List, [], ◌∷◌, ◌++◌, if◌then◌else◌, filter, codes, refl, sym, ap, ap₂, ◌∙◌}
 use Rattle.sh_tree.specs.declared.known.KnownName.TheVariants as known'
 use Rattle.sh_tree.specs.standard.program.Syntax as p
@@ -45,7 +45,8 @@ unfolding among step where_known
 among_shifted ns c n NotReached = refl
 among_shifted ns c n (Known v f a) = refl
 
--- a call goes by whether the function is defined; what it leaves known of the numbered names goes by what was known of these
+-- a call depends on whether the function is defined; what it leaves known of the numbered names
+-- depends on what was known of these
 
 dropped : (n v k : Bool) → (n && (v && k)) ≡ (n && ((n && v) && k))
 dropped true v k = refl
@@ -132,7 +133,7 @@ module _ (x : Setting) (h : AreNumbered x.names) (d : Facts) where
   pub gained_same : (g : Gains) (s : Seen) (k : Facts) → k ≡ known s → gained x g k ≡ known (gaining g s)
   gained_same g s k same = ap (gained x g) same ∙ sym (i.gain g s)
 
-  -- behind the words
+  -- after the words
   pub behind_same : (n : ℕ) (es : p.Elements) → behind x n es ≡ known (table.behind_words es (at (Before n)))
   behind_same n es = gained_same (words_gains (operands_in es)) (at (Before n)) (known_at x (Before n)) (slot_at x h d (Before n))
 

@@ -1,4 +1,4 @@
--- What the certificate that the rules are asked of claims at each place, by its entries.
+-- What the certificate on which the rules are tested claims at each place, by its entries.
 use Rattle.std.proofs.Common.{◌≡◌, ℕ, zero, suc, ◌+◌, ◌-◌, max, nat_eq, List, [], ◌∷◌, option_map, slice_get, unwrap_or, refl, ap, ◌∙◌, arith}
 use Rattle.indexmap.specs.IndexMap.{get}
 use Rattle.sh_tree.specs.standard.program.Syntax.{Text}

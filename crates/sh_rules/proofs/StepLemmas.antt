@@ -1,4 +1,5 @@
--- Words that are counted, and parameters that are shifted, up to the greatest number that is told.
+-- Words that are counted, and parameters that are shifted, up to the greatest number that can be
+-- given.
 use Rattle.std.proofs.Common.{◌≡◌, ◌≢◌, ℕ, zero, suc, ◌+◌, ◌*◌, ◌≤◌, min, List, [], ◌∷◌, drop, fold, inl, inr, refl, ap, ap₂, ◌∙◌, arith}
 use Rattle.std.proofs.Math.Nat.{mul-le-mul_left}
 use Rattle.std.proofs.lemmas.Bool.{cases_lt}
@@ -65,7 +66,7 @@ told n m (w ∷ ws) = go (count_of w) refl (one_parameter n m ws (told n (m + 1)
     go One e q o z = rw e o
     go Nothing e q o z = rw e z
 
--- more than can be told are as many as may be counted
+-- more than can be given are as many as may be counted
 
 within_most : (o q a : ℕ) → q ≤ most → min most_fields (capped o + capped q * a) ≡ min most_fields (o + q * a)
 within_most o q a h =

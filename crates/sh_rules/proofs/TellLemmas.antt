@@ -1,4 +1,4 @@
--- What is told of a compound command of a tree, by the pieces one level below it.
+-- What is reported of a compound command of a tree, by the pieces one level below it.
 use Rattle.std.proofs.Common.{◌≡◌, ℕ, Bool, true, false, Option, Some, None, List, [], ◌∷◌, fold, refl, sym, ap, ap₂, ◌∙◌, ◌≤◌, ◌<◌, ◌-◌, length, get_or, take, drop, arith, ◌||◌, codes}
 use Rattle.std.proofs.lemmas.List.{take_all}
 use Rattle.std.specs.List.{list_any}

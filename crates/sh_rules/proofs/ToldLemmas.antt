@@ -1,4 +1,4 @@
--- What several views are asked is what their meet is asked.
+-- What is required of several views is what is required of their meet.
 use Rattle.std.proofs.Common.{◌≡◌, ℕ, Bool, true, false, ◌&&◌, Option, List, [], ◌∷◌, ◌++◌, flat_map, fold, refl, sym, ap, ◌∙◌, subst, arith}
 use Rattle.std.proofs.lemmas.Bool.{and_parts, and_from}
 use Rattle.std.proofs.lemmas.List.{append-nil}
@@ -87,7 +87,7 @@ module _ (x : Setting) (h : AreNumbered x.names) (d : Facts) where
       ∙ tests_joined one rest f least
       ∙ ap (λ b. with_test b f least) (sym (is_within_seen slot (v ∷ s) ∙ within_both c (view_facts d (certificate x) v) (seen_facts d (certificate x) s)))
 
-  -- the least fault goes by constraints
+  -- the least fault follows the constraints
   least_by : ByConstraints (Option Fault) least_told x d
   least_by = record { all = with_all x d; none = λ least. refl; joined = all_split x d; bounded = bound_told; counted = loss_told x d }
 

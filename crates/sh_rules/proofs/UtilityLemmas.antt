@@ -1,4 +1,4 @@
--- What is known behind a utility, piece by piece.
+-- What is known after a utility, piece by piece.
 use Rattle.std.proofs.Common.{◌≡◌, ℕ, ◌<◌, ◌≤◌, ◌-◌, max, length, Bool, true, false, ◌&&◌, ◌||◌, if◌then◌else◌, cond, List, [], ◌∷◌, take, drop, get_or, filter, fold, map, codes, Option, Some, None, is_some, option_map, refl, sym, ap, ap₂, ◌∙◌, inl, inr, arith}
 use Rattle.std.specs.List.{cons_option, list_all, filter_map}
 use Rattle.std.proofs.lemmas.Bool.{and_parts, cases_Bool}
@@ -66,7 +66,7 @@ free_folded : (x : Setting) (es : p.Elements) (ts : List Text) (f : Facts) → f
 unfolding free_gained
 free_folded x es ts f = names_folded x (unless_prefixed es ts) f ∙ filtered_fold (is_free es) (name_gained x) f ts
 
--- one of them, where the prefix assignments' names are a set
+-- one of them, if the prefix assignments' names are a set
 pub free_passed : (x : Setting) (es : p.Elements) (s : NumberSet) (f : Facts) (t : Text) → ArePrefixes x es s → contains x.names s t ≡ true → f ≡ free_gained x es f t
 unfolding free_gained
 free_passed x es s f t h has =
@@ -190,7 +190,7 @@ pub all_declared : (x : Setting) (f g : Facts) (es ds : List Element) → ((b : 
     → g ≡ fold (declared_gained x) f ds → g ≡ gained x (named (declared_names (behind_name (elements_from x.script es)))) f
 all_declared x f g es ds h e = e ∙ sym (declared_folded x f ds) ∙ ap (λ ws. gained x (named (declared_names ws)) f) (h x.script)
 
--- behind the name
+-- after the name
 
 first_passed : (b : List ℕ) (e : Element) (rest : p.Elements) → is_word e ≡ false → behind_name (element_from b e rest) ≡ behind_name rest
 unfolding element_from operands_in words_in is_word

@@ -1,4 +1,5 @@
--- What a simple command asks and drops by the static texts of its words is what it asks and drops by its words.
+-- What a simple command requires and drops by the static texts of its words is what it requires and
+-- drops by its words.
 use Rattle.std.proofs.Common.{◌≡◌, ℕ, ◌-◌, ◌≤◌, nat_le, length, Bool, true, false, not, ◌&&◌, if◌then◌else◌, List, [], ◌∷◌, drop, filter, map, codes, Option, Some, None, option_map, inl, inr, refl, sym, ap, ◌∙◌, arith}
 use Rattle.std.proofs.lemmas.Bool.{cases_Bool, cases_lt, leb-true}
 use Rattle.sh_tree.specs.declared.known.KnownName.TheVariants as known
@@ -31,7 +32,7 @@ use Rattle.sh_rules.specs.TextTells.{jumps_by, told_by, named_by, simple_by, uti
 use Rattle.sh_rules.specs.Texts.{first_by}
 use Rattle.sh_rules.proofs.OperandLemmas.{unset_words, read_words, getopts_words, positional_of_words, first_words, status_words, runs_words}
 
--- what is known behind a utility
+-- what is known after a utility
 
 module _ (x : Setting) (k : Facts) (es : p.Elements) where
   abbrev ws : List Word

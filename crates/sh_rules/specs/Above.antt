@@ -44,7 +44,7 @@ pub record Asks {K : Type 0} (a : Asking K) (x : Setting) (Q : Ask → Type 0) (
   pub each : Each Q asks
   pub reached : last ≡ fold (ask a x) first asks
 
--- anything may be asked
+-- anything may be required
 abbrev pub Anything : Ask → Type 0
 Anything q = Unit {0}
 

@@ -39,7 +39,7 @@ unfoldable pub link_known : Link → Behind → Facts
 link_known link.AndThen o = o.zero
 link_known link.OrElse o = o.nonzero
 
--- `a && b` is zero where b is, `a || b` is not zero where b is not
+-- `a && b` is zero if b is, `a || b` is not zero if b is not
 unfoldable pub linked : Link → Behind → Behind → Behind
 linked link.AndThen o q = either q.zero (meet o.nonzero q.nonzero)
 linked link.OrElse o q = either (meet o.zero q.zero) q.nonzero

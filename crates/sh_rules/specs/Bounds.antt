@@ -27,7 +27,7 @@ fault n rule = record { number = n; rule = rule }
 unfoldable pub defined : Setting → Text → Facts → Facts
 defined x name k = among x.names (step (certificate x) (views.Define name) k)
 
--- a loop ends where its condition does not have it go on
+-- a loop ends if its condition does not have it go on
 unfoldable pub ends : LoopKind → Behind → Facts
 ends loop.While o = o.nonzero
 ends loop.Until o = o.zero
@@ -37,7 +37,7 @@ unfoldable pub behind_list : Setting → p.ForWords → Facts → Facts
 behind_list x p.every_parameter k = k
 behind_list x (p.listed ws) k = gained x (words_gains ws) k
 
--- a list that is entered where this is known
+-- a list that is entered, if this is known
 abbrev pub list_left : Setting → Facts → p.Items → Behind
 list_left x k list = items_behind x (both k) list
 
@@ -109,7 +109,7 @@ module _ {K : Type 0} (a : Asking K) (x : Setting) where
   compound_told n k (p.Define name body) kept =
       body_told name body (a.bound x (AfterZero n) (fault n F13) (defined x name (known_at x (Before n))) kept)
 
-  -- where a redirection of a compound command fails, what was known before it is known
+  -- if a redirection of a compound command fails, what was known before it is known
   unfoldable pub redirects_told : ℕ → Bool → K → K
   redirects_told n true kept = a.bound x (AfterNonzero n) (fault n F10) (known_at x (Before n)) kept
   redirects_told n false kept = kept

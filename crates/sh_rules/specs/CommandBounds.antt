@@ -50,7 +50,7 @@ module _ {K : Type 0} (a : Asking K) (x : Setting) (n : ℕ) (function : Text) w
   utility_drops_told functions kind.Getopts ws kept = loses_told option_argument kept
   utility_drops_told functions _ ws kept = kept
 
-  -- the built-in utility `getopts` runs where no function of the name is defined
+  -- the built-in utility `getopts` runs if no function of the name is defined
   unfoldable pub builtin_drops_told : Bool → K → K
   builtin_drops_told true kept = loses_told option_argument kept
   builtin_drops_told false kept = kept

@@ -16,7 +16,7 @@ use Rattle.sh_rules.specs.Walked.{Met, script_walked}
 abbrev pub sees : List Text → Facts → Certificate → Seen → Facts
 sees names start c s = among names (seen_facts start c s)
 
--- what is known where this is seen, by the certificate that the rules are asked of
+-- what is known where this is seen, by the certificate on which the rules are tested
 unfoldable pub knows : Setting → Facts → Seen → Facts
 knows x start s = sees x.names start (certificate x) s
 

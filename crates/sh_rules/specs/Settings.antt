@@ -20,7 +20,7 @@ pub record Setting : Type 0 where
   pub rows : List Row
   pub kept : kept.Certificate
 
--- the certificate that the rules are asked of
+-- the certificate on which the rules are tested
 abbrev pub certificate : Setting → Certificate
 certificate x = certificate_of x.functions (sheet_of (in_byte_order x.names) x.kept)
 

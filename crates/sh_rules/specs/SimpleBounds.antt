@@ -52,7 +52,7 @@ module _ (x : Setting) (k : Facts) (ws : List Word) (left : Gains) (names : List
   abbrev pub without_optarg : Facts → Facts
   without_optarg f = stepped x (Lose (record { vars = codes "OPTARG" ∷ []; functions = [] })) f
 
-  -- `set` with positional words: as many as are counted; where it fails, no more than there were
+  -- `set` with positional words: as many as are counted; if it fails, no more than there were
   unfoldable pub set_behind : Option (List Word) → Behind
   set_behind None = both settled
   set_behind (Some vs) =
@@ -83,7 +83,7 @@ module _ (x : Setting) (k : Facts) (ws : List Word) (left : Gains) (names : List
   utility_behind kind.Getopts = either (without_optarg (gained_names (unless_prefixed (getopts_names ws)) k)) (without_optarg k)
   utility_behind _ = both k
 
-  -- without a name: where it fails, redirections may have failed, and assignments may not be done
+  -- without a name: if it fails, redirections may have failed, and assignments may not be done
   unfoldable pub nameless_behind : Behind
   nameless_behind = either settled (if redirected then k else settled)
 

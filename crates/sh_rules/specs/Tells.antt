@@ -60,7 +60,7 @@ unfoldable pub otherwise_told : {K : Type 0} → Asking K → Setting → ℕ �
 otherwise_told a x n t None = a.bound x (AfterZero n) (fault n F6) t.known t.kept
 otherwise_told a x n t (Some list) = leaves_told a x (fault n F6) (script_left x t.known list) t.kept
 
--- whether a clause leaves what the whole does: where none follows that it could go on with
+-- whether a clause leaves what the whole does: none follows that it could go on with
 unfoldable pub ends_case : List ℕ → ClauseEnd → List Clause → Bool
 ends_case b end cs = is_last end (clauses_from b cs)
 

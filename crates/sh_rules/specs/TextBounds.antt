@@ -28,7 +28,7 @@ behind_name es = drop 1 (operands es)
 abbrev pub redirected : p.Elements → Bool
 redirected es = is_redirected (redirects_in es)
 
--- where a redirection may have failed, assignments may not be done
+-- if a redirection may have failed, assignments may not be done
 unfoldable pub unless_failed : Bool → Facts → Facts → Facts
 unless_failed redirected k settled = if redirected then k else settled
 

@@ -1,4 +1,4 @@
--- What is kept so far, with what a command asks, by the call table: what a visit does.
+-- What is kept so far, with what a command requires, by the call table: what a visit does.
 -- POSIX.1-2024, XCU 2.9.1 (simple commands), 2.9.5 (function definitions).
 use Rattle.std.specs.Prelude.{ℕ, Bool, Option, Some, None, is_some}
 use Rattle.sh_tree.specs.declared.tree.Command.{Command, out-Command}

@@ -127,7 +127,7 @@ module _ {K : Type 0} (x : Setting) (w : K → Met → K) where
     redirects_walked t p.no_redirects = t
     redirects_walked t (p.more_redirects r rs) = redirects_walked (redirect_walked t r) rs
 
-    -- a condition, and its list where it is zero
+    -- a condition, and its list if it is zero
     pub branches_walked : Around → Trail K → p.Branches → Trail K
     branches_walked y t p.no_branches = t
     branches_walked y t (p.more_branches condition body rest) =

@@ -1,4 +1,4 @@
--- Tables of texts, of which the first that stands at the front is found.
+-- Tables of texts: the first text that is at the front is found.
 use Rattle.std.proofs.Common.{◌≡◌, ℕ, ◌<◌, ◌≤◌, Bool, true, false, List, [], ◌∷◌, ◌++◌, length, drop, refl, sym, ap, ◌∙◌, arith, ⊎_elim, length-append, nat_eq, nat_lt}
 use Rattle.std.specs.Prelude.{Option, Some, None, IfSome}
 use Rattle.std.specs.List.{starts_with, list_all}
@@ -7,7 +7,7 @@ use Rattle.std.proofs.lemmas.Bool.Decides.{Decides-eqb}
 use Rattle.std.proofs.lemmas.Slice.Eq.{starts_is}
 use Rattle.sh_tree.specs.standard.language.Bytes.{is_first, longest}
 
--- texts of which one begins with a byte of a class, and the other does not
+-- two texts, one of which begins with a byte of a class, and the other does not
 apart_at_first : (p : ℕ → Bool) (t cs : List ℕ) → is_first p t ≡ true → is_first p cs ≡ false → starts_with nat_eq cs t ≡ false
 unfolding is_first
 apart_at_first p [] cs h none = absurd (false≢true h)
@@ -19,7 +19,7 @@ apart_at_first p (d ∷ t) (c ∷ cs) h none = go (nat_eq d c) refl
     go false e = rw e refl
 
 module _ {A : Type 0} where
-  -- nothing is found where each text of the table begins with a byte of a class, and the text does not
+  -- nothing is found if each text of the table begins with a byte of a class, and the text does not
   pub none_begins : (p : ℕ → Bool) (xs : List (List ℕ × A)) (cs : List ℕ) → list_all (λ x. is_first p x.0) xs ≡ true → is_first p cs ≡ false → None ≡ longest xs cs
   unfolding longest
   none_begins p [] cs h none = refl

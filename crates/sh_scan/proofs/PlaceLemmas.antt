@@ -1,4 +1,4 @@
--- The newlines before an offset, and the place behind them.
+-- The newlines before an offset, and the place after them.
 use Rattle.std.proofs.Common.{◌≡◌, ℕ, zero, suc, ◌+◌, ◌-◌, ◌<◌, ◌≤◌, min, true, false, List, [], ◌∷◌, ◌++◌, length, take, fold, get_or, slice_index, All, refl, sym, ap, subst, ◌∙◌, arith, ◌⊎◌, inl, inr, ⊎_elim, append-nil, length-append, take_all}
 use Rattle.std.specs.List.Sorted.{IsStrictlyIncreasing, IsPartitionPoint, IsNonDecreasingBy}
 use Rattle.std.proofs.Math.Nat.{eq-or-lt_of_le}
@@ -47,7 +47,7 @@ few_below xs at (suc n) up le parted =
     record { few = omega arith; last = λ p. subst (λ m. get_or xs m 0 < at) (sym same) under }
 
 module _ (text : List ℕ) where
-  -- where the newlines before an offset stand
+  -- where the newlines before an offset are
   pub before : ℕ → List ℕ
   before at = places_between (is_byte 10) text 0 at
 
@@ -89,7 +89,7 @@ module _ (text : List ℕ) where
       (λ k a b t. false≢true (sym p ∙ subst (λ m. is_byte 10 (slice_index text m) ≡ true) (let same : k ≡ at = omega arith in same) t)))
       ∙ append-nil (places_between (is_byte 10) text 0 at)
 
--- where a line begins, behind the newlines before it
+-- where a line begins, after the newlines before it
 pub start : List ℕ → ℕ
 start newlines = fold (λ s k. k + 1) 0 newlines
 
@@ -172,7 +172,7 @@ pub record Found (text : List ℕ) (at n : ℕ) : Type 0 where
   pub first : n ≡ 0 → (place_of text at).1 ≡ at + 1
   pub later : 0 < n → (place_of text at).1 + get_or (places (is_byte 10) text) (n - 1) 0 ≡ at
 
--- the place, by how many newlines stand before it and where the last of them stands
+-- the place, by how many newlines are before it and where the last of them is
 pub place_found : (text : List ℕ) (at n : ℕ) → at ≤ length text → n ≤ length (places (is_byte 10) text)
     → IsPartitionPoint (λ k. k < at) (λ k. at ≤ k) (places (is_byte 10) text) n → Found text at n
 unfolding before

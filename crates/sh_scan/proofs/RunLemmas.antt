@@ -1,4 +1,4 @@
--- How many bytes of a class stand at the front.
+-- How many bytes of a class are at the front.
 use Rattle.std.proofs.Common.{◌≡◌, ℕ, ◌+◌, ◌<◌, ◌≤◌, ◌==◌, Bool, true, false, not, Some, None, List, [], ◌∷◌, ◌++◌, length, take_while, cond, refl, ap, ◌∙◌, sym, arith}
 use Rattle.std.specs.List.{position_or_len}
 use Rattle.std.proofs.lemmas.Bool.{false≢true, false_from_ne_true}

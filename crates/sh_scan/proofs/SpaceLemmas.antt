@@ -1,4 +1,4 @@
--- What stands between the tokens of arithmetic, piece by piece.
+-- What is between the tokens of arithmetic, piece by piece.
 use Rattle.std.proofs.Common.{ℕ, ◌||◌, ◌&&◌, List, [], ◌∷◌, refl, ◌∙◌, ⊎_elim}
 use Rattle.std.proofs.lemmas.Bool.{cases_Bool, cond-true, cond-false}
 use Rattle.sh_tree.specs.standard.language.Bytes.{is_blank, is_newline, is_backslash}

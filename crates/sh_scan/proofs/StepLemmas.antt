@@ -8,7 +8,7 @@ use Rattle.sh_tree.specs.standard.language.Commands.{gap_length}
 use Rattle.sh_tree.specs.standard.language.HereDocuments.{line_length}
 use Rattle.sh_scan.specs.Steps.{joined_step, gap_step, line_step}
 
--- the whole is a first piece and the whole of what is behind it, or there is no piece
+-- the whole is a first piece and the whole of what is after it, or there is no piece
 pub record Unrolls (f step : List ℕ → ℕ) (cs : List ℕ) : Type 0 where
   pub more : 0 < step cs → f cs ≡ step cs + f (drop (step cs) cs)
   pub none : step cs ≡ 0 → f cs ≡ 0
@@ -58,7 +58,7 @@ line_unrolls joins (c ∷ d ∷ cs) = ⊎_elim
     (cases_Bool (joins && is_backslash c)))
     (cases_Bool (is_newline c))
 
--- the whole is n bytes and the whole of what is behind them
+-- the whole is n bytes and the whole of what is after them
 pub record Behind (f : List ℕ → ℕ) (cs : List ℕ) (n : ℕ) : Type 0 where
   pub within : n ≤ length cs
   pub whole : f cs ≡ n + f (drop n cs)
@@ -88,7 +88,7 @@ no_more f step cs n s so e z unrolls =
     let last : f (behind cs n) ≡ 0 = unrolls.none (sym e ∙ z) in
     omega (arith, so.whole, ap f (behind_is cs n), last)
 
--- a line continuation stands at the front where one is the first piece
+-- a line continuation is at the front if one is the first piece
 pub is_joined_is : (cs : List ℕ) → not (joined_step cs == 0) ≡ is_joined cs
 unfolding joined_length joined_step
 is_joined_is [] = refl

@@ -32,7 +32,7 @@ single_closed cs k found =
     ap (λ v. (sign.Single Plain, v + 2)) (sym r)
     ∙ sym (ap (λ t. cond {A = Sign × ℕ} t (sign.Single Plain, run (λ c. not (c == 39)) cs + 2) (sign.Fault fault.OpenSingle, 0)) inside)
 
--- Plain bytes: t says whether the n-th of the text behind i bytes stands for itself, behind the byte p
+-- Plain bytes: t says whether the n-th of the text after i bytes is literal, after the byte p
 
 module _ (x : Context) (p i : ℕ) (cs : List ℕ) (n whole : ℕ) (sofar : whole ≡ n + plain_length x p (i + n) (drop n cs)) where
   module _ (inside : n < length cs) (t : Bool) (here : t ≡ stands x p (i + n) (get_or cs n 0) (take (length cs - (n + 1)) (drop (n + 1) cs))) where
@@ -64,7 +64,7 @@ pub plain_first : (x : Context) (p i c : ℕ) (cs : List ℕ) → stands x p i c
 unfolding plain_length
 plain_first x p i c cs h = ap (λ t. cond t (1 + plain_length x c (i + 1) cs) 0) h ∙ omega arith
 
--- a tilde that does not stand for itself begins a prefix
+-- a tilde that is not literal begins a prefix
 plain_tilde : (s : Site) → is_special s 126 ≡ false
 plain_tilde Word = refl
 plain_tilde Double = refl

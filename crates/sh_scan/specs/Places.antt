@@ -11,7 +11,7 @@ next_place p b = if b == 10 then (p.0 + 1, 1) else (p.0, p.1 + 1)
 unfoldable pub place_of : List ℕ → ℕ → ℕ × ℕ
 place_of text at = fold next_place (1, 1) (take at text)
 
--- where the newlines of a text stand, and the last offset that has a place
+-- where the newlines of a text are, and the last offset that has a place
 pub record Breaks : Type 0 where
   pub newlines : List ℕ
   pub end : ℕ

@@ -17,7 +17,7 @@ unfoldable pub gap_step : List ℕ → ℕ
 gap_step [] = 0
 gap_step (c ∷ cs) = if is_blank c then 1 else joined_step (c ∷ cs)
 
--- the byte of a line, and where lines are joined the byte that a backslash keeps
+-- the byte of a line, and if lines are joined the byte that a backslash keeps
 unfoldable pub line_step : Bool → List ℕ → ℕ
 line_step joins [] = 0
 line_step joins (c ∷ []) = if is_newline c then 0 else 1

@@ -1,4 +1,5 @@
--- What a call needs and leaves: where the function is entered, what its caller keeps, and what is claimed behind it.
+-- What a call needs and leaves: where the function is entered, what its caller keeps, and what is
+-- claimed after it.
 use Rattle.std.proofs.Common.{◌≡◌, ℕ, ◌≤◌, ◌==◌, Bool, true, false, not, ◌&&◌, ◌||◌, if◌then◌else◌, List, [], ◌∷◌, length, filter, bytes_eq, inl, inr, refl, sym, ap, ◌∙◌, subst, arith, true≢false}
 use Rattle.std.specs.List.{list_all}
 use Rattle.std.proofs.lemmas.Bool.{and_from, and_parts, or_cases, or_left, or_right}
@@ -72,12 +73,13 @@ unfolding Apart claims
 unclaimed_apart NotReached saved h = tt
 unclaimed_apart (Known v g n) saved h = (h, λ t k. cc)
 
--- Behind the call
+-- After the call
 
 not_both : (a : Bool) → a ≡ true → a ≡ false → ⊥
 not_both a h k = true≢false (sym h ∙ k)
 
--- what the function leaves and what the caller keeps, whichever of the prefix assignments are put back
+-- what the function leaves and what the caller keeps, whichever of the prefix assignments are put
+-- back
 called_holds : (drops : Names) (names : List Text) (f : Text) (b r : Facts) (saved : Saved)
     → ((t : Text) → is_one_of (unset_before saved) t ≡ true → is_one_of names t ≡ true) → ((t : Text) → is_one_of (unset_before saved) t ≡ true → claims b (Variable t) ≡ false)
     → (restores : ℕ → Bool) (e : Environment) (inner outer : Frame) (c : Certificate) → Holds r e inner → Holds (step c (Lose drops) b) e outer → Holds (called drops r f names b) (restored restores 0 e saved) outer
@@ -138,7 +140,7 @@ reached_same g NotReached names e f h = absurd h
 reached_same g (Known v q a) names e f h = refl
 
 module _ (d : Facts) (c : Certificate) (defined : List Text) where
-  -- behind the words one view is seen
+  -- after the words one view is seen
   pub behind_known : (n : ℕ) (es : p.Elements) (e : Environment) (f : Frame) → OneHolds d c (behind d c n es) e f → Holds (behind_facts c n es) e f
   unfolding OneHolds steps step source_facts
   behind_known n es e f (inl h) = h
@@ -165,7 +167,7 @@ module _ (d : Facts) (c : Certificate) (defined : List Text) where
     unfolding losses_by lost i.Each
     function_drops e f h = subst (MayDrop d c x) (reached_same (words_gains (operands_in es)) (facts (c.claim (Before n))) (c.drops t) e f h) losses.0
 
-    -- the names that are not claimed behind the words
+    -- the names that are not claimed after the words
     abbrev unseen : List Text
     unseen = filter (λ u. not (claims (behind_facts c n es) (Variable u))) (prefixes es)
 
@@ -183,7 +185,7 @@ module _ (d : Facts) (c : Certificate) (defined : List Text) where
         refl)
         prefixes_drop
 
-    -- what is claimed behind the call
+    -- what is claimed after the call
     pub call_returns : (saved : Saved) → ((u : Text) → is_one_of (unset_before saved) u ≡ true → is_one_of (prefixes es) u ≡ true)
         → ((u : Text) → is_one_of (unset_before saved) u ≡ true → claims (behind_facts c n es) (Variable u) ≡ false) → (e : Environment) (f : Frame) → Holds (behind_facts c n es) e f
         → ReturnAt d c defined x n t saved (kept_facts c t (behind_facts c n es))

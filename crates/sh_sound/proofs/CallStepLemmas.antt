@@ -40,7 +40,7 @@ use Rattle.sh_sound.proofs.CallLemmas.{kept_facts, lose_holds, unclaimed_apart, 
 
 -- Environments
 
--- what a redirection behind the prefix assignments does, but for the names of these
+-- what a redirection after the prefix assignments does, except for the names of these
 hidden_stay : (e : Environment) (saved : Saved) (x : Environment) → ((t : Text) → is_name t ≡ true → is_one_of (unset_before saved) t ≡ false → is_some (e.variables t) ≡ true → is_some (x.variables t) ≡ true)
     → (t : Text) → is_name t ≡ true → is_some (e.variables t) ≡ true → is_some ((hiding e saved x).variables t) ≡ true
 unfolding hiding put_text unset_before
@@ -166,7 +166,8 @@ module _ (d : Facts) (c : Certificate) (defined : List Text) where
           frame = λ k. pushed_stays fs ts;
         }
 
-    -- A redirection failed: the names of the assignments that are done stay as they are, or are put back.
+    -- A redirection failed: the names of the assignments that are done stay as they are, or are put
+    -- back.
     failed_ok : (rs : p.Redirects) (xs : Assignments) (saved : Saved) (s : Seen) (vs : List Work) (live : Well base e fs status vs) (stage : Stage rs xs saved s) → is_redirected rs ≡ true → OneHolds d c s e (front fs)
         → GoesOn base live.callers ws (after_command n) → (y : Environment) → Grows e y → y.functions ≡ e.functions
         → Ok base e fs status (failed_in e (front fs) status ws a (Named t ts) (restored a.restores 0 y saved) ws)

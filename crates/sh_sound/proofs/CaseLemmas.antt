@@ -100,7 +100,7 @@ module _ (d : Facts) (c : Certificate) (defined : List Text) where
           })
           (both_holds d c status s e (front fs) known)
 
-      -- behind the list of a clause
+      -- after the list of a clause
       fall_good : (callers : List Facts) (n : ℕ) (s : Seen) (o : After) (end : ClauseEnd) (rest : p.Clauses) → (is_last end rest ≡ true → Leaves d c n o)
           → ClausesAt d c defined x n s (entries.falls end o) rest → Behind callers ws (after_command n) → Behind callers (fall e (front fs) status ws a n end rest) o
       unfolding fall is_last entries.falls GoodIn Good FrontGood FallAt

@@ -76,7 +76,7 @@ module _ (d : Facts) (c : Certificate) (defined : List Text) where
   known_before : (n : ℕ) → Known d c defined (at (Before n)) (at (Before n)) (facts (c.claim (Before n)))
   known_before n = record { entails = λ e f h. h; knows = λ e f h. holds_at d c (Before n) e f h }
 
-  -- a simple command has no redirections behind it
+  -- a simple command has no redirections after it
   unredirected : (n : ℕ) (es : p.Elements) (rs : p.Redirects) → kind_formed (p.Simple es) rs ≡ true → Known d c defined (at (Before n)) (behind_redirects n rs) (with_gains (redirects_gains rs) (facts (c.claim (Before n))))
   unfolding kind_formed is_redirected redirects_gains
   unredirected n es p.no_redirects h = record {

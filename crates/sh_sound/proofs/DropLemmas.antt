@@ -53,7 +53,8 @@ not_more xs ys t h k = go (is_one_of xs t) refl
     go true e = absurd (true≢false (sym (all_one (is_one_of ys) xs t h e) ∙ k))
     go false e = e
 
--- Every variable with a name that was set still is, every function with one is still defined, and so `!`, but for these names.
+-- Every variable with a name that was set still is, every function with one is still defined, and
+-- so `!`, except for these names.
 pub record Spares (names : Names) (e e' : Environment) : Type 0 where
   pub variables : (t : Text) → is_name t ≡ true → is_one_of names.vars t ≡ false → is_some (e.variables t) ≡ true → is_some (e'.variables t) ≡ true
   pub functions : (t : Text) → is_name t ≡ true → is_one_of names.functions t ≡ false → is_some (e.functions t) ≡ true → is_some (e'.functions t) ≡ true
@@ -152,7 +153,7 @@ module _ (d : Facts) (c : Certificate) where
   loop_drops n x names h = record { shared_vars = h.shared_vars; shared_functions = h.shared_functions; counted = h.counted }
 
   module _ (defined : List Text) (SimpleAt : Around → Work → Seen → Type 0) where
-    -- what is known behind the front
+    -- what is known after the front
     pub front_goes : (x : Around) (w : Work) (K : After → Type 0) (q : After) → FrontGood d c defined SimpleAt x w K q → (r : After) × K r
     unfolding FrontGood
     front_goes x (Items is) K q h = (items_after q is, h.1)

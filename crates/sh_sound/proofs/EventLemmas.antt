@@ -1,4 +1,4 @@
--- Where rules, demands and quoting hold, no run has an event.
+-- If rules, demands and quoting hold, no run has an event.
 use Rattle.std.proofs.Common.{◌≡◌, Bool, true, false, ◌||◌, Option, Some, None, List, [], ◌∷◌, ◌++◌, refl, ◌∙◌, unwrap_or, option_map, option_and_then}
 use Rattle.std.proofs.lemmas.Option.{same_Some, none-some}
 use Rattle.sh_table.specs.standard.runs.Worlds.{World, Move, step, run, has_unset_event, has_split_event, start_world}
@@ -35,11 +35,12 @@ splits_more (n ∷ ns) m s v h whole k = go (has_split_event s n) (step s n) h w
     go false None g w later = refl
     go false (Some u) g w later = later u g w
 
--- Of a start from which no step expands an unset parameter before something was split, and none splits before a parameter was unset
+-- Of a start from which no step expands an unset parameter before something was split, and none
+-- splits before a parameter was unset
 
 module _ (s : World) (quiet : (moves : List Move) (w : World) → run moves s ≡ Some w → splits moves s ≡ false → (m : Move) → has_unset_event w m ≡ false)
     (whole : (moves : List Move) (w : World) → run moves s ≡ Some w → (m : Move) → has_unset_event w m ≡ false → has_split_event w m ≡ false) where
-  -- what is run behind a run that split nothing splits nothing
+  -- what is run after a run that split nothing splits nothing
   splits_none : (moves : List Move) (before : List Move) (v w : World) → run before s ≡ Some v → splits before s ≡ false → run moves v ≡ Some w
       → (ms : List Move) × (run ms s ≡ Some w) × (splits ms s ≡ false)
   unfolding run

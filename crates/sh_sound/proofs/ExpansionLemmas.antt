@@ -1,4 +1,5 @@
--- Where its needs are met, the expansion of a word meets no parameter that is not set, and leaves what it gains.
+-- If its needs are met, the expansion of a word meets no parameter that is not set, and leaves what
+-- it gains.
 use Rattle.std.proofs.Common.{◌≡◌, ℕ, zero, suc, ◌-◌, ◌≤◌, ◌<◌, Bool, true, false, not, ◌&&◌, ◌||◌, if◌then◌else◌, List, [], ◌∷◌, ◌++◌, length, slice_get, codes, Option, Some, None, is_some, bytes_eq, ◌⊎◌, inl, inr, refl, sym, ap, ◌∙◌, subst, arith, leb-true, ltb-true, true≢false, ℤ}
 use Rattle.std.proofs.lemmas.Bool.{and_parts}
 use Rattle.std.proofs.lemmas.Slice.Eq.{bytes_eq-Decides}
@@ -423,7 +424,7 @@ module _ (d : Facts) (c : Certificate) (defined : List Text) where
     unfolding is_first
     home_named = refl
 
-    -- what an operator needs does not hang on its place
+    -- what an operator needs does not depend on its place
     use_alike : (y : Facts) (offset : ℕ) (q : p.Parameter) (act : Action) (colon : Bool) (w : p.Word) → operator_unmet y offset q (p.Use act colon w) ≡ [] → operator_unmet y 0 q (p.Use act colon w) ≡ []
     unfolding operator_unmet
     use_alike y offset q action.Default colon w m = m
@@ -431,7 +432,7 @@ module _ (d : Facts) (c : Certificate) (defined : List Text) where
     use_alike y offset q action.Fault colon w m = m
     use_alike y offset q action.Alternative colon w m = m
 
-    -- the words behind `-`, `=`, `?` and `+`
+    -- the words after `-`, `=`, `?` and `+`
     used_does : (k : Context) (q : p.Parameter) (g : Given) (act : Action) (colon : Bool) (w : p.Word) (v : Option Text) (s : State) (n : Seen) (y : Facts)
         → parameter_formed q ≡ true → (is_some v ≡ true → Has (sure q) s.environment f) → Here n y s.environment
         → Each (Stands d c defined) (word_entered (operand_seen act q n) w) → operator_unmet y 0 q (p.Use act colon w) ≡ []

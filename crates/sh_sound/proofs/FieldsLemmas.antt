@@ -93,7 +93,7 @@ static_text : (w : p.Word) (t : Text) → static_of w ≡ Some t → word_text w
 unfolding static_of
 static_text w t h = (unless _ (word_text w) t h).1
 
--- a word that is read gives a field where it is static
+-- a word that is read gives a field if it is static
 static_gives : (w : p.Word) (t : Text) → field_formed w ≡ true → static_of w ≡ Some t → some_gives_field w ≡ true
 static_gives w t h s =
     let k = (and_parts (word_formed w) (not (is_some (word_text w)) || some_gives_field w) h).1 in

@@ -189,7 +189,7 @@ module _ (d : Facts) (c : Certificate) where
   pub covers_at : (slot : Slot) (s : Seen) → Covers d c slot s → Entails d c s (at slot)
   covers_at slot s h e f k = at_holds slot e f (covers_hold slot s e f h k)
 
-  -- behind one more step
+  -- after one more step
   pub one_stepped : (x : Step) (s : Seen) (e e' : Environment) (f f' : Frame)
       → ((y : Facts) → Holds y e f → Holds (step c x y) e' f') → OneHolds d c s e f → OneHolds d c (stepped x s) e' f'
   unfolding OneHolds

@@ -33,7 +33,8 @@ module _ (d : Facts) (c : Certificate) (defined : List Text) (SimpleAt : Around 
 
   -- Loops
 
-  -- behind the loop of the mark its claims are known, and at its next turn what is claimed of its head
+  -- after the loop of the mark its claims are known, and at its next turn what is claimed of its
+  -- head
   unfoldable MarkGood : Around → List Facts → Mark → Option ℕ → Type 0
   MarkGood base callers no_loop None = Unit {0}
   MarkGood base callers no_loop (Some l) = ⊥
@@ -104,7 +105,7 @@ module _ (d : Facts) (c : Certificate) (defined : List Text) (SimpleAt : Around 
       back_good base callers ws next.0 next.1
 
   module _ (base : Around) (e : Environment) (fs : List Frame) (status : ℕ) (ws : List Work) where
-    -- `break` goes on behind its loop
+    -- `break` goes on after its loop
     pub break_ok : (n now : ℕ) (s : Seen) (o : After) (vs : List Work) (live : Well base e fs status vs) → Good d c defined SimpleAt base live.callers ws o
         → is_some (loop_at n (around base ws).loops) ≡ true → BreakRules d c (loop_at n (around base ws).loops) s → OneHolds d c s e (front fs)
         → Ok base e fs status (goes e (front fs) now (broken_off (loop_mark n ws) ws))

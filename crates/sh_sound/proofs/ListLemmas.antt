@@ -40,7 +40,7 @@ module _ (d : Facts) (c : Certificate) (defined : List Text) (SimpleAt : Around 
   good_weaker base (kept ∷ callers) (Work.Return n f saved ∷ ws) a b l g = (leads_trans d c a b (after_function f) l g.0, g.1, g.2)
   good_weaker base callers (w ∷ ws) a b l g = record { after = g.after; leads = leads_trans d c a b g.after l g.leads; goes = g.goes }
 
-  -- work that may stand behind other work may stand at the front
+  -- work that may be after other work may be at the front
   pub good_in : (f : Frame) (base : Around) (callers : List Facts) (ws : List Work) (o : After) → Good d c defined SimpleAt base callers ws o → GoodIn d c defined SimpleAt f base callers ws o
   unfolding GoodIn Good FrontGood
   good_in f base callers [] o g = g
@@ -236,7 +236,7 @@ module _ (d : Facts) (c : Certificate) (defined : List Text) (SimpleAt : Around 
 
     -- Compound commands
 
-    -- a list, and behind it what the command claims
+    -- a list, and after it what the command claims
     pub list_goes : (is : p.Items) (o : After) (n : ℕ) (now : ℕ) (vs : List Work) → (live : Well base e fs status vs) → ItemsAt d c defined x o is → Leaves d c n (items_after o is)
         → GoesOn base live.callers ws (after_command n) → AfterHolds d c now o e (front fs) → Ok base e fs status (goes e (front fs) now (Items is ∷ ws))
     unfolding GoodIn Good FrontGood
@@ -309,7 +309,7 @@ module _ (d : Facts) (c : Certificate) (defined : List Text) (SimpleAt : Around 
             (record { after = Both (if_nonzero q); leads = leads_same (Both (if_nonzero q)); goes = (live.good.goes.2, live.good.goes.3) })
             (both_holds d c status (if_nonzero q) e (front fs) (where_nonzero status q e (front fs) z known))
 
-    -- a loop: the condition, and the mark behind it
+    -- a loop: the condition, and the mark after it
     pub turn_goes : (n : ℕ) (kind : LoopKind) (condition body : p.Items) (last now : ℕ) (vs : List Work) → (live : Well base e fs status vs) → LoopAt d c defined x n kind condition body
         → GoesOn base live.callers ws (after_command n) → OneHolds d c (at (Head n)) e (front fs) → Ok base e fs status (goes e (front fs) now (Items condition ∷ Test n kind condition body last ∷ ws))
     unfolding GoodIn Good FrontGood around

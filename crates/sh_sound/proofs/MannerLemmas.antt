@@ -65,7 +65,7 @@ is_ordinary (Utility k ws) = not (is_special k)
 is_ordinary _ = true
 
 module _ (d : Facts) (c : Certificate) where
-  -- behind names that may be gone less is known
+  -- after names that may be gone less is known
   pub lose_holds : (names : Names) (s : Seen) (e e' : Environment) (f : Frame) → Spares names e e' → OneHolds d c s e f → OneHolds d c (stepped (Lose names) s) e' f
   unfolding Holds step where_known
   lose_holds names s e e' f k h = one_stepped d c (Lose names) s e e' f f go h
@@ -90,7 +90,7 @@ module _ (d : Facts) (c : Certificate) where
   pub lose_entails : (names : Names) (s : Seen) → Entails d c s (stepped (Lose names) s)
   lose_entails names s e f h = lose_holds names s e e f (spares_same names e) h
 
-  -- where a redirection fails, what is known behind the words is known after the command
+  -- if a redirection fails, what is known after the words is known after the command
   pub fails_nonzero : (x : Around) (n : ℕ) (es : p.Elements) (m : Manner) → SimpleRules d c x n es m → is_ordinary m ≡ true → is_redirected (redirects_in es) ≡ true
       → Entails d c (behind d c n es) (at (AfterNonzero n))
   unfolding SimpleRules is_ordinary is_special after_nameless after_utility if_nonzero

@@ -109,7 +109,7 @@ module _ (d : Facts) (c : Certificate) (defined : List Text) where
       h e f (gain_holds d c (and_gains (left_gains xs) (and_gains (redirect_gains r) (redirects_gains rs))) s e f all (holds_gain d c (word_gains (opened r)) s e f first))
   settles_redirected (Named t ts) n es r rs xs s h = h
 
-  -- and in a copy, where a special built-in utility expands none
+  -- and in a copy, in which a special built-in utility expands none
   settles_copied : (m : Manner) (n : ℕ) (es : p.Elements) (r : p.Redirect) (rs : p.Redirects) (xs : Assignments) (s : Seen) → may_copy m ≡ true
       → Settles d c defined m n es (p.more_redirects r rs) xs s → Settles d c defined m n es rs xs s
   unfolding Settles may_copy

@@ -44,7 +44,7 @@ module _ (d : Facts) (c : Certificate) (defined : List Text) (SimpleAt : Around 
     pub goes_fine : (e' : Environment) (now : ℕ) (us : List Work) → Grows e e' → Well base e' fs now us → Fine (goes e' f now us)
     goes_fine e' now us g well = record { ok = step_goes d c defined SimpleAt base e e' fs status now us g well; plain = goes_plain d c defined SimpleAt fs e' now us }
 
-    -- behind an expansion that is not split
+    -- after an expansion that is not split
     pub behind_fine : {g : Gains} (s : State) (x : Effect) → Bodies d c defined e.functions → Expanded d c defined f g (fresh e a.given) s → Fine x → Ok base e fs status (after_expansion s false x)
     behind_fine s x bodies does fine = expanded_ok d c defined SimpleAt base e fs status ws a s false x bodies does fine.plain (λ h. fine.ok) fine.ok.grows
 
@@ -61,7 +61,7 @@ module _ (d : Facts) (c : Certificate) (defined : List Text) (SimpleAt : Around 
         (grown d c defined SimpleAt base e fs status ws a e' (nonzero a.status) vs ws live (after_command n) g same good
         (nonzero_holds d c defined SimpleAt (nonzero a.status) (after_command n) e' f (is_nonzero a.status) h))
 
-    -- A redirection: in a copy nothing stays of it. Where it fails the command goes on in its own way.
+    -- A redirection: in a copy nothing stays of it. If it fails the command goes on in its own way.
     pub redirected_fine : (copied : Bool) (s : State) (next : List Work) (failed : Environment → Effect) → Bodies d c defined e.functions → Grows e s.environment → s.environment.functions ≡ e.functions
         → ((e' : Environment) → Grows e e' → e'.functions ≡ e.functions → Fine (failed e'))
         → (copied ≡ true → Fine (goes e f (status_behind s status a) next))

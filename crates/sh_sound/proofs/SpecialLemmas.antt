@@ -100,7 +100,7 @@ module _ (d : Facts) (c : Certificate) (defined : List Text) (SimpleAt : Around 
       frame = λ shares. frame_of d c defined SimpleAt live.callers e fs g live.stays (λ none. alone (same_shares base live.callers ws o none good ∙ shares));
     }
 
--- Steps over what is known behind the words
+-- Steps over what is known after the words
 
 module _ (d : Facts) (c : Certificate) where
   pub shift_holds : (n : ℕ) (s : Seen) (e : Environment) (f g : Frame) → length f - n ≤ length g → OneHolds d c s e f → OneHolds d c (stepped (Shift n) s) e g

@@ -44,7 +44,7 @@ use Rattle.sh_sound.proofs.MannerLemmas.{lose_holds}
 use Rattle.sh_sound.proofs.SpecialLemmas.{drops_ok, moves_ok, shift_holds, none_counted, has_names}
 use Rattle.sh_sound.proofs.LeaveLemmas.{passed, break_leaves, continue_leaves, return_leaves}
 
--- a function that is defined behind `unset` was defined before
+-- a function that is defined after `unset` was defined before
 undefined_bodies : (d : Facts) (c : Certificate) (defined : List Text) (e : Environment) (name : Text) → Bodies d c defined e.functions → Bodies d c defined (with_function e name None).functions
 unfolding put_text
 undefined_bodies d c defined e name h t body k = go (bytes_eq t name) k
@@ -69,7 +69,8 @@ module _ (d : Facts) (c : Certificate) (defined : List Text) (SimpleAt : Around 
   abbrev pub left_set : p.Elements → Gains
   left_set es = and_gains (assignments_gains es) (redirections_gains es)
 
-  -- What is known of a special built-in utility once its words, redirections and assignments are done.
+  -- What is known of a special built-in utility once its words, redirections and assignments are
+  -- done.
   pub record Ready (name : KnownName) (n : ℕ) (es : p.Elements) (operands : List Text) (us : List Work) : Type 0 where
     pub live : Well us
     pub goes_on : Good d c defined SimpleAt base live.callers ws (after_command n)

@@ -67,11 +67,11 @@ module _ (d : Facts) (c : Certificate) (defined : List Text) (SimpleAt : Around 
         word_does d c defined (front fs) status k w (fresh e a.given) at.seen at.facts
         (record { one = at.entails e (front fs) h; facts = at.knows e (front fs) h }) at.rules at.met at.formed
 
-    -- what is known behind it
+    -- what is known after it
     pub behind_word : (b : Seen) (w : p.Word) (s : State) → OneHolds d c b e (front fs) → Does (word_gains w) s → s.ended ≡ false → OneHolds d c (gaining (word_gains w) b) s.environment (front fs)
     behind_word b w s h does l = gain_holds d c (word_gains w) b s.environment (front fs) (does.gains l) (one_grows d c b e s.environment (front fs) does.grows h)
 
-    -- a step behind an expansion
+    -- a step after an expansion
     pub expanded_ok : {g : Gains} (s : State) (split : Bool) (x : Effect) → Bodies d c defined e.functions → Does g s → Plain fs x
         → (split ≡ false → Ok base e fs status x) → (base.shares ≡ true → Grows e x.environment) → Ok base e fs status (after_expansion s split x)
     unfolding i.Each StartsOk

@@ -1,4 +1,4 @@
--- Where rules and demands hold, no run expands a parameter that is not set.
+-- If rules and demands hold, no run expands a parameter that is not set.
 use Rattle.std.proofs.Common.{◌≡◌, true, false, ◌||◌, Option, Some, None, List, [], ◌∷◌, bytes_eq, inl, inr, refl, sym, ◌∙◌, subst}
 use Rattle.std.specs.List.{list_all, cons_option}
 use Rattle.std.proofs.lemmas.Bool.{and_parts, or_cases, or_left, or_right}
@@ -57,7 +57,7 @@ names_named (x ∷ es) formed f h =
       | inr other ↦ rest other
     ]
 
--- each command defines one of these, where the functions of all commands are among them
+-- each command defines one of these, if the functions of all commands are among them
 all_listed : (es : List Entered) (all : List Text) → ((f : Text) → is_one_of (functions_of es) f ≡ true → is_one_of all f ≡ true)
     → Each (λ x. (f : Text) → defined_by x.command ≡ Some f → is_one_of all f ≡ true) es
 unfolding Each

@@ -1,4 +1,5 @@
--- Utilities that are not special built-ins: their redirections and prefix assignments, and what the table says of each.
+-- Utilities that are not special built-ins: their redirections and prefix assignments, and what the
+-- table says of each.
 use Rattle.std.proofs.Common.{◌≡◌, ℕ, ◌==◌, Bool, true, false, not, ◌&&◌, ◌||◌, if◌then◌else◌, Option, Some, None, is_some, unwrap_or, List, [], ◌∷◌, ◌++◌, map, filter, codes, bytes_eq, inl, inr, refl, sym, ap, subst, ◌∙◌, arith}
 use Rattle.std.specs.List.{list_all}
 use Rattle.std.proofs.lemmas.Bool.{and_parts, or_cases, false≢true, true≢false, not-true}
@@ -135,7 +136,7 @@ module _ (d : Facts) (c : Certificate) (defined : List Text) (SimpleAt : Around 
     unfolding lost
     reached_optarg h k = subst (MayDrop d c x) (reached_same (words_gains (operands_in es)) (facts (c.claim (Before n))) optarg e f (behind_known d c defined n es e f h)) k
 
-    -- whatever a utility does, but for `getopts`, grows
+    -- whatever a utility does, except for `getopts`, grows
     by_kind : (k : Kind) → (k ≡ kind.Getopts → Ok (goes (gets_option all e a (getopts_name ts)) f a.status ws))
         → ((e' : Environment) (now : ℕ) → Grows e e' → e'.functions ≡ e.functions → Ok (goes e' f now ws)) → Ok (utility all e f ws a k ts)
     unfolding utility reads

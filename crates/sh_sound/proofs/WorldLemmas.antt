@@ -121,7 +121,7 @@ module _ (d : Facts) (c : Certificate) (defined : List Text) (SimpleAt : Around 
   abbrev Ok : Around → Environment → List Frame → ℕ → Effect → Type 0
   Ok base e fs status x = StepOk d c defined SimpleAt base e fs status x
 
-  -- a live process is well, and drops nothing where it is a part
+  -- a live process is well, and drops nothing if it is a part
   pub record LivesWell (environments : ℕ → Environment) (frames : ℕ → Frame) (r : Process) : Type 0 where
     pub base : Around
     pub shares : is_some r.parent ≡ true → base.shares ≡ true
@@ -422,7 +422,7 @@ module _ (d : Facts) (c : Certificate) (defined : List Text) (SimpleAt : Around 
       go (Pushes f) same h = none h
       go Pops same h = none h
 
-  -- Runs, where every step of a process keeps what `StepOk` says
+  -- Runs, if every step of a process keeps what `StepOk` says
 
   abbrev pub Kept : Type 0
   Kept = (base : Around) (e : Environment) (fs : List Frame) (status : ℕ) (ws : List Work) (a : Answer) → Well base e fs status ws → Ok base e fs status (act e (front fs) status ws a)

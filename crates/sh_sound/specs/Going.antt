@@ -87,7 +87,7 @@ Apart (Known v g a) names = ((t : Text) → is_one_of names.vars t ≡ true → 
 module _ (start : Facts) (c : Certificate) (defined : List Text) where
   -- Words
 
-  -- a word that may be expanded where this is seen
+  -- a word that may be expanded if this is seen
   pub record WordAt (b : Seen) (w : p.Word) : Type 0 where
     pub seen : Seen
     pub facts : Facts

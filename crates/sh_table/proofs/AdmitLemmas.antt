@@ -1,4 +1,4 @@
--- What `admit` tells is the refused command with the least number.
+-- What `admit` reports is the refused command with the least number.
 use Rattle.std.proofs.Common.{◌≡◌, ℕ, List, [], ◌∷◌, map, Option, Some, None, option_map, Err, refl, sym, ap, ap₂, ◌∙◌, subst}
 use Rattle.sh_tree.specs.declared.refusal.Refusal.{Refusal}
 use Rattle.sh_tree.specs.declared.refusal.Refusal.TheVariants as refusal
@@ -29,7 +29,7 @@ same_first x y xs ys e = cc
 same_rest : {A : Type 0} (x y : A) (xs ys : List A) → x ∷ xs ≡ y ∷ ys → xs ≡ ys
 same_rest x y xs ys e = cc
 
--- what is told of a command with these texts
+-- what is reported of a command with these texts
 abbrev told_of : Outline → List Static → Option Refused
 told_of o ts = option_map (λ (r : Rule). record { number = o.number; at = o.at; rule = r }) (rule_of o.surroundings o.shape ts)
 
@@ -60,7 +60,7 @@ told_whole b t table rs xs e r h =
     let rows : map (row_in b) rs ≡ map row_of (sites_of (script_of b t)) = ap (λ c. map (row_in c) rs) (sym same) ∙ r ∙ ap (λ (x : Table). x.rows) e in
     first_by_number (script_of b t) ∙ sym (told_kept b xs rs (sites_of (script_of b t)) rows h)
 
--- the refusal that is told
+-- the refusal that is reported
 
 pub refused : (t : p.Items) (o : Option Refused) (x : Refusal) → first_refused t ≡ o → Some x ≡ refusal_of o → Admits t (Err x)
 unfolding refusal_of

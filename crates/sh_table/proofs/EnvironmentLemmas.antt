@@ -17,7 +17,7 @@ pub if_either : {A : Type 0} (R : A → Type 0) (b : Bool) (x y : A) → R x →
 if_either R true x y h k = h
 if_either R false x y h k = k
 
--- P stays where a variable gets a value or is removed
+-- P stays if a variable gets a value or is removed
 module _ (P : Environment → Type 0) (kept : (e : Environment) (name : Text) (v : Option Text) → P e → P (with_variable e name v)) where
   pub showing_kept : (e : Environment) (xs : List (Text × Text)) → P e → P (showing e xs)
   unfolding showing
@@ -56,7 +56,7 @@ module _ (P : Environment → Type 0) (kept : (e : Environment) (name : Text) (v
   unfolding changes_directory
   directory_kept e a h = given_kept true _ (codes "OLDPWD") (a.values 1) (given_kept true e (codes "PWD") (a.values 0) h)
 
--- P stays where a variable or a function is removed
+-- P stays if a variable or a function is removed
 module _ (P : Environment → Type 0) (unset : (e : Environment) (name : Text) → P e → P (with_variable e name None)) (undefined : (e : Environment) (name : Text) → P e → P (with_function e name None)) where
   removed_kept : (removal : Removal) (a : Answer) (n : ℕ) (e : Environment) (name : Text) → P e → P (removed removal a n e name)
   unfolding removed removed_either removed_any

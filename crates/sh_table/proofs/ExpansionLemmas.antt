@@ -1,5 +1,6 @@
--- What an expansion keeps of a state, whatever its answers are: what stays where an answer is taken, a variable of those that the word
--- may assign is set, and a process is started for a list that stands in the word.
+-- What an expansion keeps of a state, whatever its answers are. It stays if an answer is taken, if
+-- a variable of those that the word may assign is set, and if a process is started for a list in
+-- the word.
 use Rattle.std.proofs.Common.{◌≡◌, ℕ, Bool, true, false, not, ◌&&◌, ◌||◌, Option, Some, None, is_some, codes, List, [], ◌∷◌, ◌++◌, ℤ, refl, sym, ◌∙◌}
 use Rattle.std.specs.List.{list_all}
 use Rattle.std.proofs.lemmas.Bool.{or_parts, or_from, cond_both, and_parts}
@@ -31,7 +32,8 @@ pub each_joined : (ok : Located → Bool) (xs ys : List Located) → Each ok xs 
 each_joined ok xs ys h k = rw (list_all-append ok xs ys, h, k) refl
 
 module _ (is_one : Text → Bool) (ok : Located → Bool) (Stays : State → Type 0) where
-  -- what stays at each change of a state: no variable of these is set, and each list that is started has these commands alone
+  -- what stays at each change of a state: no variable of these is set, and each list that is
+  -- started has these commands alone
   pub record Closed : Type 0 where
     pub takes : (s : State) → Stays s → Stays (taken s)
     pub meets : (s : State) → Stays s → Stays (met s)
@@ -297,7 +299,7 @@ module _ (ok : Located → Bool) (Stays : State → Type 0) where
   pub word_kept : Keeps → (f : Frame) (status : ℕ) (c : Context) (w : Word) (s : State) → Each ok (word_located w) → Stays s → Stays (expand f status c w s).state
   word_kept kept f status c w s k h = word_stays (λ n. false) ok Stays (any_assigned kept) f status c w s (word_assigns_none w) k h
 
--- once a parameter that is not set was met, this stays told
+-- once a parameter that is not set was met, this stays reported
 met_closed : Closed (λ n. false) (λ l. true) (λ s. s.unset ≡ true)
 met_closed = record {
   takes = λ s h. h;

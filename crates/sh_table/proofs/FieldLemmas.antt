@@ -1,4 +1,4 @@
--- What splitting and pathname expansion make of the pieces of a word, where they have no Split event.
+-- What splitting and pathname expansion make of the pieces of a word, if they have no Split event.
 use Rattle.std.proofs.Common.{◌≡◌, ◌==◌, ℕ, Bool, true, false, not, ◌&&◌, ◌||◌, List, [], ◌∷◌, ◌++◌, map, length, flat_map, inl, inr, refl, sym, ap, ◌∙◌, append_assoc, append-nil}
 use Rattle.std.specs.List.{list_any}
 use Rattle.std.proofs.lemmas.Bool.{or_parts, or_from, and_cases}
@@ -78,13 +78,13 @@ more_alike f g f' g' a b = record {
 rows_alike : (q r : Bool) (t : Text) → list_any is_open (map (marked q) t) ≡ false → list_any is_open (map (marked r) t) ≡ false → Alike (map (marked q) t) (map (marked r) t)
 rows_alike q r t h k = record { same = row_text q t ∙ sym (row_text r t); first = h; second = k }
 
--- bytes that stand behind each other
+-- bytes one after the other
 pub row_inside : (q : Bool) (field : List Marked) (t : Text) (xs : List Sign) → scan (Inside field) (map (stands q) t ++ xs) ≡ scan (Inside (field ++ map (marked q) t)) xs
 unfolding scan
 row_inside q field [] xs = ap (λ f. scan (Inside f) xs) (sym (append-nil field))
 row_inside q field (c ∷ t) xs = row_inside q (field ++ marked q c ∷ []) t xs ∙ ap (λ f. scan (Inside f) xs) (append_assoc field (marked q c ∷ []) (map (marked q) t))
 
--- without a separator in it, what an expansion outside quotes gives stands as it is
+-- without a separator in it, what an expansion outside quotes gives stays as it is
 no_separator : (ifs t : Text) → list_any (λ c. is_in ifs c || c == 92) t ≡ false → map (unquoted_sign ifs) t ≡ map (stands false) t
 unfolding unquoted_sign
 no_separator ifs [] h = refl
@@ -97,7 +97,8 @@ module _ (directory : Directory) where
   abbrev names : Scan → List Sign → List Text
   names z xs = flat_map (field_names directory) (scan z xs)
 
-  -- two rows of signs that give the same names, be it that no field has begun or that alike ones have
+  -- two rows of signs that give the same names, be it that no field has begun or that alike ones
+  -- have
   record Same (xs ys : List Sign) : Type 0 where
     before : names Before xs ≡ names Before ys
     inside : (f g : List Marked) → Alike f g → names (Inside f) xs ≡ names (Inside g) ys
@@ -140,7 +141,7 @@ module _ (directory : Directory) where
   unfolding scan
   same_break xs ys s = record { before = s.before; inside = λ f g a. field_first f g (names Before xs) (names Before ys) a s.before }
 
-  -- where an expansion outside quotes stands beside no pattern
+  -- if an expansion outside quotes is beside no pattern
   same_pieces : (ifs : Text) (ps : List Piece) → list_any (is_split ifs) ps ≡ false → list_any holds_pattern ps ≡ false
       → Same (flat_map (piece_signs ifs) ps) (flat_map (piece_signs []) (map as_quoted ps))
   unfolding piece_signs is_split holds_pattern as_quoted

@@ -50,7 +50,7 @@ place_later t i (u ∷ us) = go (bytes_eq u t) (place_later t (i + 1) us)
     go true h = let e : i + 1 ≡ suc i = omega arith in ap (λ (n : ℕ). Some n) e
     go false h = h
 
--- a name has a place where it is one of them
+-- a name has a place if it is one of them
 pub is_placed : (names : List Text) (t : Text) (i : ℕ) → is_some (position_from (λ name. bytes_eq name t) i names) ≡ is_one_of names t
 is_placed [] t i = refl
 is_placed (u ∷ us) t i = go (is_placed us t (i + 1)) (bytes_eq u t)

@@ -1,5 +1,6 @@
--- In every run, what processes have left to do stands in the program: each command that is left passes a test that each command of the
--- program passes with what stands round it there, and the marks behind it say the same of it.
+-- In every run, what processes have left to do is in the program. Take a test that each command of
+-- the program passes with what is round it there. Each command that is left passes it, and the
+-- marks after it say the same of it.
 use Rattle.std.proofs.Common.{◌≡◌, ℕ, zero, suc, ◌-◌, ◌==◌, nat_le, ◌&&◌, ◌||◌, Bool, true, false, if◌then◌else◌, Option, Some, None, is_some, List, [], ◌∷◌, ◌++◌, length, unwrap_or, bytes_eq, refl, sym, ap, subst, ◌∙◌}
 use Rattle.std.proofs.lemmas.Bool.{and_parts}
 use Rattle.std.proofs.lemmas.Option.{same_Some, none-some}
@@ -30,8 +31,8 @@ use Rattle.sh_table.proofs.ExpansionLemmas.{Each, each_parts, each_joined, word_
 use Rattle.sh_table.proofs.MarkLemmas.{around}
 use Rattle.sh_table.proofs.ProcessLemmas.{StartHolds, StartsHold, EffectHolds, goes_holds, ends_holds, work_holds, run_holds}
 
--- What is known of a simple command while its words are expanded, by what stands round it, the words that are left and the fields so
--- far.
+-- What is known of a simple command while its words are expanded: by what is round it, the words
+-- that are left and the fields so far.
 abbrev pub Known : Type 1
 Known = Surroundings → Simple → p.Words → List Text → Type 0
 
@@ -108,7 +109,7 @@ module _ (ok : Located → Bool) (Q : Known) where
   Begins x n (p.Simple es) = Q x (record { number = n; elements = es }) (operands_in es) []
   Begins x n _ = Unit {0}
 
-  -- a piece of work, by what stands round it
+  -- a piece of work, by what is round it
   unfoldable pub WorkStands : Surroundings → Work → Type 0
   WorkStands x (Items t) = Each ok (items_located x t)
   WorkStands x (Links ls) = Each ok (links_located x ls)
@@ -165,7 +166,7 @@ module _ (ok : Located → Bool) (Q : Known) where
   starting_stands : (x : Effect) (starts : List Start) → EffectStands x → StartsStand starts → EffectStands (record x { starts = starts })
   starting_stands x starts h k = record { environment = h.environment; next = h.next; starts = k }
 
-  -- Jumps go to what stands
+  -- Jumps go to what is in the program
 
   unfoldable MarkStands : Mark → Type 0
   MarkStands no_loop = Unit {0}
@@ -677,7 +678,7 @@ module _ (ok : Located → Bool) (Q : Known) where
         let next = picked_stand a.pattern w vs both.0 both.1 in
         matched_stands n _ _ body end rest next.0 next.1 h.1 h.2
 
-    -- the command itself, and what stands in it
+    -- the command itself, and what is in it
     command_apart : (number at : ℕ) (kind : p.Kind) (rs : p.Redirects) → Each ok (command_located (around ws) (p.command number at kind rs))
         → (ok (record { command = p.command number at kind rs; surroundings = around ws }) ≡ true) × Each ok (kind_located (around ws) kind) × Each ok (redirects_located rs)
     unfolding items_located
@@ -727,7 +728,7 @@ module _ (ok : Located → Bool) (Q : Known) where
     front_stands (Patterns n vs body end rest) h = patterns_stand n vs body end rest h
     front_stands (Fall n cs) h = falls_stand n cs h
 
-  -- a step leaves what stands
+  -- a step leaves what is in the program
   act_stands : Follows ok Q → (e : Environment) (f : Frame) (status : ℕ) (ws : List Work) (a : Answer) → FunctionsStand e → LeftStands ws → EffectStands (act e f status ws a)
   unfolding act LeftStands
   act_stands follows e f status [] a h k = ends_stands e f h

@@ -1,10 +1,10 @@
--- The marks in the work that is left say what stands round the command at its front.
+-- The marks in the work that is left say what is round the command at its front.
 use Rattle.std.proofs.Common.{◌≡◌, ℕ, ◌-◌, nat_le, Bool, true, false, if◌then◌else◌, is_some, List, [], ◌∷◌, refl}
 use Rattle.sh_table.specs.Surroundings.{Surroundings, outside, in_loop, in_function}
 use Rattle.sh_table.specs.Rows.{is_marked}
 use Rattle.sh_table.specs.standard.runs.Work.{Work, Return, Test, Again, ForFields, Mark, no_loop, marked, or_nearer, nth_mark, loop_mark, return_mark}
 
--- what stands round a command with this work behind it: a process is begun outside loops and functions
+-- what is round a command with this work after it: a process is begun outside loops and functions
 unfoldable pub around : List Work → Surroundings
 around [] = outside
 around (Return number function saved ∷ ws) = in_function
@@ -22,7 +22,7 @@ nth_marked n further turn behind = go (nat_le n 1) further
     go false no_loop = refl
     go false (marked t b) = refl
 
--- a loop stands round a place where a jump finds its mark
+-- a loop is round a place where a jump finds its mark
 pub loop_is_marked : (n : ℕ) (ws : List Work) → is_marked (loop_mark n ws) ≡ (around ws).loop
 unfolding around loop_mark is_marked
 loop_is_marked n [] = refl
@@ -32,7 +32,7 @@ loop_is_marked n (Again number kind condition body ∷ ws) = nth_marked n (loop_
 loop_is_marked n (ForFields number name fields body ∷ ws) = nth_marked n (loop_mark (n - 1) ws) (ForFields number name fields body) ws
 loop_is_marked n (w ∷ ws) = loop_is_marked n ws
 
--- a function stands round a place where `return` finds its mark
+-- a function is round a place where `return` finds its mark
 pub function_is_marked : (ws : List Work) → is_some (return_mark ws) ≡ (around ws).function
 unfolding around return_mark
 function_is_marked [] = refl

@@ -16,7 +16,7 @@ use Rattle.sh_table.specs.Surroundings.{outside, items_located}
 abbrev texts_of : ℕ → List Site → List Static
 texts_of n ss = texts_with n (map row_of ss)
 
--- the order of the commands does not tell
+-- the order of the commands does not matter
 
 placed_texts : (n : ℕ) (s : Site) (ss : List Site) → texts_of n (placed s ss) ≡ texts_of n (s ∷ ss)
 unfolding placed texts_with row_of
@@ -40,7 +40,7 @@ unfolding by_number texts_with row_of
 sorted_texts n [] = refl
 sorted_texts n (s ∷ ss) = placed_texts n s (by_number ss) ∙ ap (λ ts. cond (s.number == n) (statics s.form) ts) (sorted_texts n ss)
 
--- each command's texts stand under its number
+-- each command's texts are under its number
 abbrev pub Tells : (ℕ → List Static) → List Site → Type 0
 Tells told [] = Unit {0}
 Tells told (s ∷ ss) = (told s.number ≡ statics s.form) × Tells told ss
@@ -174,12 +174,12 @@ unfolding row_of
 site_numbers [] = refl
 site_numbers (s ∷ ss) = ap (λ l. s.number ∷ l) (site_numbers ss)
 
--- whether the rows of a table rise is told by the numbers that are kept
+-- the numbers that are kept say whether the rows of a table rise
 pub rises_kept : (x : Table) (c : List ℕ) (rs : List declared.Row) → map (row_in c) rs ≡ x.rows
     → numbers_rise (map (λ q. q.number) rs) ≡ numbers_rise (map (λ q. q.0) x.rows)
 rises_kept x c rs k = ap numbers_rise (sym (kept_numbers c rs) ∙ ap (map (λ q. q.0)) k)
 
--- the rows of a script's table rise only where no two of its commands have one number
+-- the rows of a script's table rise only if no two of its commands have one number
 pub rises_numbered : (x : Table) → numbers_rise (map (λ q. q.0) x.rows) ≡ true → (b : List ℕ) (t : Script) → x ≡ table_of b t → is_numbered (script_of b t) ≡ true
 unfolding table_of
 rises_numbered x h b t e =

@@ -19,7 +19,7 @@ use Rattle.sh_table.proofs.FieldLemmas.{row_inside}
 
 -- Fields of signs
 
--- where a field has begun there is one
+-- if a field has begun, there is one
 inside_gives : (field : List Marked) (xs : List Sign) → 1 ≤ length (scan (Inside field) xs)
 unfolding scan
 inside_gives field [] = omega arith

@@ -13,7 +13,7 @@ pub all_in : {A B : Type 0} (p : B → Bool) (f : A → B) (xs : List A) → lis
 all_in p f [] = refl
 all_in p f (x ∷ xs) = ap (λ t. p (f x) && t) (all_in p f xs)
 
--- a numeral is not zero where a digit is not
+-- a numeral is not zero if a digit is not
 
 decimal_positive : (n : ℕ) (t : Text) → (nat_lt 0 n || list_any (λ c. nat_lt 48 c) t) ≡ nat_lt 0 (decimal n t)
 unfolding decimal

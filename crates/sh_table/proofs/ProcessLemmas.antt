@@ -1,4 +1,5 @@
--- What each environment and the work of each process keep in every run, where each step of a process keeps it.
+-- What each environment and the work of each process keep in every run, if each step of a process
+-- keeps it.
 use Rattle.std.proofs.Common.{◌≡◌, ℕ, Option, Some, None, List, [], ◌∷◌, sym, subst}
 use Rattle.sh_tree.specs.standard.program.Syntax as p
 use Rattle.sh_table.specs.standard.runs.Environment.{Environment, Frame}

@@ -1,4 +1,4 @@
--- What quotes hold: pieces that stand as they are, and breaks where `$@` makes them.
+-- What quotes hold: pieces that stay as they are, and breaks where `$@` makes them.
 use Rattle.std.proofs.Common.{◌≡◌, ℕ, Bool, true, false, not, ◌&&◌, ◌||◌, Option, Some, None, codes, List, [], ◌∷◌, ◌++◌, refl, sym, ◌∙◌}
 use Rattle.std.specs.List.{list_all}
 use Rattle.std.proofs.lemmas.Bool.{and_parts, and_from, or_parts, cond_both, false≢true}
@@ -34,7 +34,7 @@ pub neither_part : (c a b : Bool) → (c && (a || b)) ≡ false → ((c && a) �
 neither_part true a b h = or_parts a b h
 neither_part false a b h = (refl, refl)
 
--- breaks count, or no `$@` stands there
+-- breaks count, or no `$@` is there
 module _ (f : Frame) (status : ℕ) (breaks : Bool) where
   abbrev NoBreak : Bool → Type 0
   NoBreak mentions = (not breaks && mentions) ≡ false

@@ -1,5 +1,5 @@
--- An admitted program comes to no utility without a row: the name of each command is static text, which is its first field, and the
--- marks of what stands round it are behind it.
+-- An admitted program comes to no utility without a row: the name of each command is static text,
+-- which is its first field, and the marks of what is round it are after it.
 use Rattle.std.proofs.Common.{◌≡◌, ℕ, Bool, true, false, not, ◌&&◌, ◌||◌, if◌then◌else◌, Option, Some, None, is_some, List, [], ◌∷◌, ◌++◌, map, unwrap_or, append_assoc, append-nil, refl, sym, ap, subst, ◌∙◌}
 use Rattle.std.specs.List.{list_all}
 use Rattle.std.proofs.lemmas.Bool.{and_parts}
@@ -32,12 +32,13 @@ use Rattle.sh_table.proofs.StaticLemmas.{static_fields}
 
 -- Fields of words
 
--- these are the fields of words with this static text: a word that has some gives it as its one field
+-- these are the fields of words with this static text: a word that has some gives it as its one
+-- field
 unfoldable Fits : List Static → List Text → Type 0
 Fits [] us = us ≡ []
 Fits (s ∷ ss) us = (vs : List Text) × (rest : List Text) × (us ≡ vs ++ rest) × ((t : Text) → s ≡ Some t → vs ≡ t ∷ []) × Fits ss rest
 
--- those behind a first word
+-- those after a first word
 abbrev Behind : Text → List Static → List Text → Type 0
 Behind t ss us = (rest : List Text) × (us ≡ t ∷ rest) × Fits ss rest
 
@@ -102,7 +103,7 @@ commands_fit (Some t ∷ ss) us h k =
 
 -- What a name admits
 
--- a command with this name and these operands behind it has a row, where these stand round it
+-- a command with this name and these operands after it has a row, if these are round it
 unfoldable name_has_row : Surroundings → Kind → List Text → Bool
 name_has_row x (kind.Special known.Break) ts = list_all (λ t. is_count (Some t)) ts && x.loop
 name_has_row x (kind.Special known.Continue) ts = list_all (λ t. is_count (Some t)) ts && x.loop
@@ -148,7 +149,8 @@ kind_fits x quoted k ss us h i = refl
 abbrev GiveFields : p.Words → Type 0
 GiveFields vs = list_all text_gives_field (words_in vs) ≡ true
 
--- before its first word it breaks no rule; behind it, whatever the fields of the words that are left will be, it has a row
+-- before its first word it breaks no rule; after it, whatever the fields of the words that are left
+-- will be, it has a row
 unfoldable RowsKnown : Known
 RowsKnown x k left [] = (words_rule x left ≡ None) × GiveFields left
 RowsKnown x k left (t ∷ ts) =

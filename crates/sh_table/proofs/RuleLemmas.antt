@@ -16,7 +16,7 @@ use Rattle.sh_table.specs.Surroundings.{Surroundings, Located, outside, items_lo
 use Rattle.sh_table.specs.Walks.{is_plain, is_quoted}
 use Rattle.sh_table.proofs.OrderLemmas.{Above, Rises, number_of, rises_by_number}
 
--- a static word is plainly its text where it is plain bytes alone
+-- a static word is plainly its text if it is plain bytes alone
 
 plain_is : (u t : Text) (pattern : Bool) → cond pattern None (Some (u ++ [])) ≡ Some t → bytes_eq u t ≡ true
 plain_is u t true e = cc

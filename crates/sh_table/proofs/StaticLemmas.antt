@@ -15,7 +15,7 @@ use Rattle.sh_table.specs.standard.runs.States.{State}
 use Rattle.sh_table.specs.standard.runs.Expansion.{Piece, Bytes, Break, Literal, Quoted, Unquoted, piece_text, pieces_text, Context, in_fields, in_quotes, Outcome, gives, followed, is_every, has_every, quote_pieces, expand_part, expand}
 use Rattle.sh_table.specs.standard.runs.Fields.{Sign, stands, piece_signs, Before, Inside, scan, is_unquoted, is_bracket, is_pattern, field_text, field_names, fields}
 
--- Pieces that stand as they are
+-- Pieces that stay as they are
 
 unfoldable pub is_standing : Piece → Bool
 is_standing (Bytes Literal t) = true
@@ -93,7 +93,8 @@ none_any (c ∷ cs) = none_any cs
 
 -- Outcomes that spell a text
 
--- all pieces stand, their text is t, their unquoted bytes have the classes that has tells, and they begin a field where field says so
+-- all pieces stand, their text is t, their unquoted bytes have the classes that has gives, and they
+-- begin a field where field says so
 record Spells (field : Bool) (t : List ℕ) (has : (ℕ → Bool) → Bool) (o : Outcome) : Type 0 where
   ended : o.state.ended ≡ false
   standing : list_all is_standing o.pieces ≡ true

@@ -1,4 +1,5 @@
--- What a word gives that mentions neither IFS nor `$*`, where environments differ in IFS alone; and fields that hang on no separator.
+-- What a word gives that mentions neither IFS nor `$*`, if environments differ in IFS alone; and
+-- fields that depend on no separator.
 use Rattle.std.proofs.Common.{◌≡◌, ℕ, zero, suc, ◌+◌, ◌/◌, ◌%◌, ◌<◌, ◌==◌, nat_lt, nat_le, arith, mod-lt, ltb-true, le-leb, pos, negsuc, length, Bool, true, false, ◌&&◌, ◌||◌, if◌then◌else◌, Option, Some, None, unwrap_or, is_some, not, List, [], ◌∷◌, ◌++◌, map, codes, bytes_eq, refl, sym, ap, ap₂, ◌∙◌, subst, ℤ, true≢false}
 use Rattle.std.specs.List.{list_any, list_all, flat_map}
 use Rattle.std.proofs.Math.Bool.{or-false}
@@ -24,9 +25,10 @@ use Rattle.sh_table.specs.standard.runs.Fields.{begins_pattern, Sign, Stands, Bl
 use Rattle.sh_table.specs.standard.runs.Numbers.{last_digits, digits, integer_text, is_operand, is_computed, is_zero}
 use Rattle.sh_table.specs.standard.runs.States.{State, fresh, taken, ending, stray, with_environment}
 
--- Environments and states that are alike but for IFS
+-- Environments and states that are alike except for IFS
 
--- what two states share: all that an expansion hangs on, but for the values of IFS, which are these
+-- what two states share: all that an expansion depends on, except for the values of IFS, which are
+-- these
 record Shared (i j : Option Text) (e d : Environment) (g h : ℕ → Given) (b c : Bool) : Type 0 where
   differ : DifferInIfs e d
   first : e.variables (codes "IFS") ≡ i
@@ -344,7 +346,7 @@ module _ (i j : Option Text) where
           behind_same (expand_inside f status e s) (expand_inside f status e t) (expand_operands f status rest) (inside_same e s t q.0 a)
           (λ u v b. operands_same rest u v q.1 b)
 
--- Pieces that hang on no separator
+-- Pieces that depend on no separator
 
 -- a digit or `-`
 abbrev pub is_numeral : ℕ → Bool
@@ -480,7 +482,7 @@ is_kept_scan : Scan → Bool
 is_kept_scan (Inside field) = list_all is_kept field
 is_kept_scan _ = true
 
--- a numeral is no separator, where these are none
+-- a numeral is no separator, if these are none
 pub numeral_stands : (ifs : Text) (c : ℕ) → list_any is_numeral ifs ≡ false → is_numeral c ≡ true → is_in ifs c ≡ false
 numeral_stands [] c h n = refl
 numeral_stands (d ∷ ds) c h n =
@@ -598,7 +600,7 @@ names_kept directory (x ∷ xs) h =
     let p = and_parts (list_all is_kept x) (list_all (list_all is_kept) xs) h in
     ap₂ (λ b ts. (if b then names_or (field_text x) (directory x) else field_text x ∷ []) ++ ts) (kept_no_pattern x p.0) (names_kept directory xs p.1)
 
--- the fields of firm pieces are those without separators, as they stand
+-- the fields of firm pieces are those without separators, as they are
 firm_fields : (ifs : Text) (directory : Directory) (ps : List Piece) → list_any is_numeral ifs ≡ false → Firm ps → fields ifs directory ps ≡ map field_text (split_fields [] ps)
 unfolding is_kept_scan
 firm_fields ifs directory ps h k =

@@ -121,7 +121,7 @@ names_few b t =
 pub kept : (b : List ℕ) (t : Script) (f : Functions) (rs : List declared.Row) → length f.names ≤ MAX_COMMANDS → map (row_in b) rs ≡ map row_of (sites_of (script_of b t)) → IsKept f rs
 kept b t f rs few r = record { few = few; ordered = numbers_rise b (script_of b t) rs r }
 
--- the row behind those with lesser numbers
+-- the row after those with lesser numbers
 
 none_with : (b : List ℕ) (n : ℕ) (rs : List declared.Row) → ((k : ℕ) (d : declared.Row) → k < length rs → n < (get_or rs k d).number) → [] ≡ texts_with n (map (row_in b) rs)
 unfolding texts_with

@@ -1,4 +1,5 @@
--- The texts that words write: static words in every context, quoted words as one field, operands as an assignment.
+-- The texts that words write: static words in every context, quoted words as one field, operands as
+-- an assignment.
 use Rattle.std.proofs.Common.{◌≡◌, ◌≢◌, ℕ, zero, suc, ◌+◌, ◌==◌, ◌<◌, cond, arith, Bool, true, false, not, ◌&&◌, ◌||◌, if◌then◌else◌, Some, List, [], ◌∷◌, ◌++◌, map, length, take, drop, append-nil, true≢false, refl, sym, ap, ap₂, subst, ◌∙◌}
 use Rattle.std.specs.List.{list_any, list_all, prefix_len}
 use Rattle.std.proofs.lemmas.Bool.{ne_eqb, and_parts, and_from, or_parts, cond_both, false≢true, or_left}
@@ -139,7 +140,7 @@ module _ (f : Frame) (status : ℕ) where
 
 -- Texts that are an assignment in form
 
--- there is a byte behind as many
+-- there is a byte after as many
 pub first_below : (other : ℕ → Bool) (n : ℕ) (t : Text) → is_first other (drop n t) ≡ true → n < length t
 unfolding is_first
 first_below other n [] h = absurd (false≢true (sym (ap (is_first other) (drop_none n)) ∙ h))
@@ -163,7 +164,7 @@ run_front test t r h =
     ∙ ap (λ b. cond b (length t + prefix_len test r) (prefix_len test t)) (ne_eqb (prefix_len test t) (length t) (λ e. absurd (omega arith)))
     ∙ sym (length-prefix_len test t)
 
--- the name, `=` and the value of an assignment in form, with more behind it
+-- the name, `=` and the value of an assignment in form, with more after it
 pub record Assigns (t r : Text) : Type 0 where
   pub still : is_assignment (t ++ r) ≡ true
   pub name : take (name_length (t ++ r)) (t ++ r) ≡ take (name_length t) t

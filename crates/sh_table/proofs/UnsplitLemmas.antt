@@ -1,4 +1,5 @@
--- Words whose form keeps splitting and pathname expansion from changing what they expand to: a step that expands one has no Split event.
+-- Words whose form keeps splitting and pathname expansion from changing what they expand to: a step
+-- that expands one has no Split event.
 use Rattle.std.proofs.Common.{◌≡◌, ℕ, zero, suc, ◌==◌, nat_lt, Bool, true, false, not, ◌&&◌, ◌||◌, Option, Some, None, List, [], ◌∷◌, ◌++◌, length, ℤ, pos, negsuc, ◌/◌, ◌%◌, refl, sym, ap, ◌∙◌, true≢false, ◌+◌}
 use Rattle.std.specs.List.{list_any, list_all}
 use Rattle.std.proofs.Math.Bool.{or-false, and-false}
@@ -242,7 +243,8 @@ module _ (f : Frame) (status : ℕ) where
       let q = and_parts (is_whole x) (are_whole w) h in
       followed_full (expand_part f status in_fields x s) (expand f status in_fields w) (part_full x s q.0) (λ t. word_tells f status in_fields w t) (λ t. word_full w t q.1) u
 
-  -- a whole word without a pattern is not split where IFS separates no numbers, unless it meets a parameter that is not set
+  -- a whole word without a pattern is not split if IFS separates no numbers, unless it meets a
+  -- parameter that is not set
   pub whole_never_splits : (w : Word) (s : State) (ifs : Text) → are_whole w ≡ true → word_begins_pattern w ≡ false → list_any is_numeral ifs ≡ false
       → (expand f status in_fields w s).state.unset ≡ false → splits ifs (expand f status in_fields w s).pieces ≡ false
   unfolding splits

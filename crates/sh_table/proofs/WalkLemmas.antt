@@ -1,4 +1,5 @@
--- The commands of a piece of a tree, by the pieces one level below it, and what a walk keeps of them.
+-- The commands of a piece of a tree, by the pieces one level below it, and what a walk keeps of
+-- them.
 use Rattle.std.proofs.Common.{◌≡◌, ℕ, Bool, true, false, Option, Some, None, List, [], ◌∷◌, ◌++◌, length, refl, sym, ap, ◌∙◌, Result, Ok, Err, OnOk, fold, nat_lt, arith}
 use Rattle.std.specs.List.{flat_map}
 use Rattle.std.proofs.lemmas.Bool.Decides.{nat_tests}

@@ -35,7 +35,8 @@ put_each Q f n v own k other = go (k == n) refl
 
 -- Steps and runs
 
--- a step that was made: its process lives and waits for nobody, the run was not over, and the effect was applied
+-- a step that was made: its process lives and waits for nobody, the run was not over, and the
+-- effect was applied
 pub record Made (w : World) (m : Move) (w' : World) : Type 0 where
   pub process : Process
   pub lives : w.processes m.process ≡ Some process
@@ -181,7 +182,7 @@ greatest_awake w n h above = none_below w.next_process _ (λ k. no_part (w.proce
     let b : k < suc n = above k (parent_lives (w.processes k) q e) in
     omega arith))
 
--- where a process lives, one lives that waits for nobody
+-- if a process lives, one lives that waits for nobody
 pub some_awake : (w : World) (n : ℕ) → Ordered w → ((p : ℕ) → is_some (w.processes p) ≡ true → p < n) → (p : ℕ) → is_some (w.processes p) ≡ true
     → (q : ℕ) × (is_some (w.processes q) ≡ true) × (waits w q ≡ false)
 some_awake w zero h above p lives = let a : p < 0 = above p lives in absurd (omega arith)

@@ -19,7 +19,7 @@ use Rattle.sh_table.specs.Walks.{Shape, Called, Named, Compound, around, seen_fo
 use Rattle.sh_table.specs.WordTexts.{text_in}
 
 -- `Ok` exactly if no command breaks the profile, and otherwise the refusal of the one with the
--- least number; or out of memory
+-- least number; or memory ran out
 abbrev pub Admits : p.Items → Result (Unit {0}) Refusal → Type 0
 Admits t (Ok x) = first_refused t ≡ None
 Admits t (Err (refusal.Profile r at)) = (q : Refused) × (first_refused t ≡ Some q) × (q.rule ≡ r) × (q.at ≡ at)

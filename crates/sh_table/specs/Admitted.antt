@@ -105,6 +105,6 @@ unfoldable mutual
 abbrev pub is_admitted : p.Items → Bool
 is_admitted t = items_admitted outside t
 
--- A program is admitted exactly where no command of it is refused.
+-- A program is admitted exactly if no command of it is refused.
 abbrev pub AdmittedAsListed : Type 0
 AdmittedAsListed = (t : p.Items) → is_admitted t ≡ not (is_some (first_refused t))

@@ -69,8 +69,8 @@ row_of s = (s.number, statics s.form)
 unfoldable pub table_of : List ℕ → Script → Table
 table_of b t = record { script = b; functions = functions_of (sites_of (script_of b t)); rows = map row_of (sites_of (script_of b t)) }
 
--- The table, or a refusal if there are more functions than a script may have commands; or out of
--- memory.
+-- The table, or a refusal if there are more functions than a script may have commands; or memory
+-- ran out.
 abbrev pub Tables : List ℕ → Script → Result Table Refusal → Type 0
 Tables b t (Ok x) = x ≡ table_of b t
 Tables b t (Err TooMany) = MAX_COMMANDS < length (table_of b t).functions.names

@@ -65,7 +65,8 @@ unfoldable mutual
 
 -- What a word mentions
 
--- a parameter of a kind in the word, those of arithmetic included; substitutions aside
+-- a parameter of a kind in the word, those of arithmetic included, except for those in
+-- substitutions
 unfoldable mutual
   pub part_mentions : (Parameter → Bool) → Part → Bool
   part_mentions is_one (Double w) = word_mentions is_one w
@@ -96,8 +97,8 @@ unfoldable mutual
   operands_mention is_one no_operands = false
   operands_mention is_one (more_operands operator e rest) = expression_mentions is_one e || operands_mention is_one rest
 
--- A variable of a kind that the word may assign: `${name=w}`, and in arithmetic; substitutions
--- aside
+-- A variable of a kind that the word may assign: by `${name=w}`, and in arithmetic, but not in
+-- substitutions.
 unfoldable mutual
   pub part_assigns : (Text → Bool) → Part → Bool
   part_assigns is_one (Double w) = word_assigns is_one w

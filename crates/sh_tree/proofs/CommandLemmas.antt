@@ -123,7 +123,7 @@ unfolding of_script out-Clause denote.Hole.Carrier.out
 clause_out (Clause' shape patterns body end) =
     ap (λ xs. xs ++ of_script body) (words_listed patterns ∙ ap (flat_map of_word) (sym (items_shown-the_row-Word-5 shape patterns)))
 
--- words behind their rows
+-- words by their rows
 
 word_row : (w : Word) → of_parts (hidden-the_row-Part-0 w.parts) ≡ of_word w
 word_row w = parts_listed (hidden-the_row-Part-0 w.parts) ∙ ap (flat_map of_part) (items_hidden-the_row-Part-0 w.parts)

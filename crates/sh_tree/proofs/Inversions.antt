@@ -42,7 +42,7 @@ use Rattle.sh_tree.specs.standard.language.Trees.{span, word, param}
 use Rattle.sh_tree.specs.standard.language.Reading as r
 use Rattle.sh_tree.specs.standard.language.Reading.{is_some, sign_at, after, prior_of, figure_at, over, lead_of, lead_here, skip, parted, stage_behind, redirected, is_empty, ReadsParts, ReadsPart, ReadsExpression, ReadsConditional, ReadsLevel, ReadsUnary, ReadsWord, ReadsRedirect, ReadsRedirects, ReadsDocuments, ReadsBreaks, ReadsElements, ReadsCommand, ReadsCompound, ReadsPipeline, ReadsCommands, ReadsAndOr, ReadsLinks, ReadsItems, ReadsList, ReadsSequence, ReadsScript}
 
--- what tells two values apart
+-- what separates two values
 pub apart : {A : Type 0} (f : A → Bool) {x y : A} → x ≡ y → f x ≡ true → f y ≡ false → ⊥
 apart f e h k = true≢false (sym h ∙ ap f e ∙ k)
 
@@ -141,7 +141,7 @@ refused_is_part (sign.Fault f) h = refl
 refused_is_part (sign.LeftOut f) h = refl
 refused_is_part _ h = absurd (true≢false (sym h))
 
--- nothing is read at a fault, at a form that is left out or where the text ends too early
+-- nothing is read at a fault, at a refused form or where the text ends too early
 pub nothing_at : {limit : ℕ} {b : List ℕ} {x : Context} {prior : ℕ} {s u : Spot} {ps : List Part} (g : Sign) → sign_at b x prior s ≡ g → is_refused g ≡ true
     → ReadsParts limit b x prior s u ps → ⊥
 nothing_at {limit = limit} {b = b} {x = x} {prior = prior} {s = s} g is refused h =
@@ -165,7 +165,7 @@ one_part_word {limit = limit} {b = b} {x = x} {s = s} {u = u} g p e is some only
     let parts : t.0 ≡ p ∷ [] = f.3 ∙ ap (λ v. v ∷ f.2) o.1 ∙ ap (λ v. p ∷ v) q.1 in
     (end, t.1 ∙ ap (λ v. word s.at v.at t.0) end ∙ ap (λ v. word s.at e v) parts)
 
--- a word of plain bytes ends behind them
+-- a word of plain bytes ends after them
 pub bare_word_ends : {limit : ℕ} {b : List ℕ} {x : Context} {s u : Spot} {w : Word} → sign_at b x 0 s ≡ sign.Plain
     → sign_at b x (prior_of b sign.Plain (after b x 0 s)) (to (after b x 0 s) s) ≡ sign.Stop → ReadsWord limit b x s u w
     → u ≡ to (after b x (prior_of b sign.Plain (after b x 0 s)) (to (after b x 0 s) s)) s
@@ -266,7 +266,7 @@ sequence_items {b = b} on some (r.nothing k h) = absurd (true≢false (sym some 
 sequence_items on some (r.sequence l) = list_items on l
 
 module _ (limit : ℕ) (b : List ℕ) (body : ℕ → Document) where
-  -- what stands behind an and-or list that ends at u
+  -- what follows an and-or list that ends at u
   abbrev pub Follows : State → State → Type 0
   Follows u v =
       (separator (lead_here b u) ≡ None) × (not (is_reserved (lead_here b u)) || u.closed ≡ true) × (v ≡ u)
@@ -279,7 +279,8 @@ items_are (r.last_item {u = u} {l = l} h n c) = (u, l, h, inl (n, c, refl))
 items_are (r.ended_item {u = u} {v = v} {l = l} {g = g} h n k e) = (u, l, h, inr (g, v, n, k, inl (e, refl)))
 items_are (r.more_items {u = u} {v = v} {l = l} {g = g} {is = is} h n k e i) = (u, l, h, inr (g, v, n, k, inr (is, e, i)))
 
--- no separator follows: the items end here, and a reserved word can follow only where a closing word is recognized
+-- no separator follows: the items end here, and a reserved word can follow only where a closing
+-- word is recognized
 pub items_end : (limit : ℕ) (b : List ℕ) (body : ℕ → Document) (u v : State) → separator (lead_here b u) ≡ None → Follows limit b body u v
     → (not (is_reserved (lead_here b u)) || u.closed ≡ true) × (v ≡ u)
 items_end limit b body u v none (inl h) = (h.1, h.2)
@@ -307,7 +308,8 @@ unlinked none (r.no_link h) = refl
 unlinked none (r.more_links h k p l) = cc
 
 module _ (limit : ℕ) (b : List ℕ) (body : ℕ → Document) where
-  -- the first command of an and-or list from s to v, which ends with that command where neither `|` nor a link follows
+  -- the first command of an and-or list from s to v, which ends with that command if neither `|`
+  -- nor a link follows
   abbrev pub FirstCommand : State → State → Type 0
   FirstCommand s v = (u : State) × (c : Command) × ReadsCommand limit b body s u c × (is_bar (lead_here b u) ≡ false → link_of (lead_here b u) ≡ None → v ≡ u)
 
@@ -494,17 +496,19 @@ redirection_begins (lead.Operator o) h = rw h (refl, refl, refl, refl)
 redirection_begins _ h = absurd (true≢false (sym h))
 
 module _ (limit : ℕ) (b : List ℕ) (s : Spot) where
-  -- where a script at s goes on that begins with the operator of a here-document and its delimiter, up to a token at i
+  -- where a script at s goes on that begins with the operator of a here-document and its delimiter,
+  -- up to a token at i
   abbrev pub Awaiting : Bool → Word → ℕ → State
   Awaiting strip w i = with_mark (mark_of b strip w s.depth) (record (begun (within s)) { spot = to i (begun (within s)).spot })
 
-  -- the delimiter is w, and the token behind it stands at i
+  -- the delimiter is w, and the token after it is at i
   abbrev pub Delimits : Redirection → Word → ℕ → Type 0
   Delimits at w i =
       (u : Spot) (y : Word) → ReadsWord limit b (in_unsplit (next b at.end (begun (within s))).spot.at) (facing (next b at.end (begun (within s)))) u y
       → (past b u (begun (within s)) ≡ record (begun (within s)) { spot = to i (begun (within s)).spot }) × (y ≡ w)
 
-  -- what such a script goes on with, and what follows its first command where that is the only one of its and-or list
+  -- what such a script goes on with, and what follows its first command if that is the only one of
+  -- its and-or list
   abbrev pub GoesOn : State → State → Type 0
   GoesOn from v =
       (body : ℕ → Document) × (u : State) × (es : List Element) × ReadsElements limit b body Prefixed from u es

@@ -57,7 +57,8 @@ pub whole : (b : List ℕ) (limit : ℕ) (u : State) (t : Script) → HasNoNul b
     → u.spot.at ≡ length b → Reads b t
 whole b limit u t n h w e = (limit, u.spot.count, read_to b limit u t n h w e)
 
--- in words and among commands of so many commands and levels, with nothing waiting; behind a compound command too
+-- in words and among commands of so many commands and levels, with nothing waiting; after a
+-- compound command too
 abbrev pub at_word : ℕ → ℕ → ℕ → Spot
 at_word i count depth = record { at = i; count = count; depth = depth; quiet = false; joins = false; tabs = false }
 
@@ -327,7 +328,7 @@ the_document = record { text = document_body; end = span 15 16 }
 abbrev the_bodies : ℕ → Document
 the_bodies = nth (the_document ∷ [])
 
--- among commands, while the body waits, and behind it
+-- among commands, while the body waits, and after it
 abbrev waiting : ℕ → ℕ → State
 waiting i count = record (at_token i count 0) { pending = the_mark ∷ [] }
 

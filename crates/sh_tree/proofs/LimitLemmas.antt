@@ -56,7 +56,7 @@ unfolding is_stop
 stop_is sign.Stop h = refl
 stop_is _ h = absurd (true≢false (sym h))
 
--- the word of a braced expansion that stands outside quotes, from i on
+-- the word of a braced expansion outside quotes, from i on
 abbrev in_default : ℕ → Context
 in_default i = record { site = site.Braced; origin = i; colons = false; fields = false; strip = false; body = false; backquotes = true }
 

@@ -96,7 +96,7 @@ clauses_listed b (more_of-Clause (Clause' shape patterns body end) rest) =
     ap (λ ws. p.more_clauses ws (script_of b body) end (clauses_of b rest)) (words_listed b patterns ∙ ap (words_from b) (sym (items_shown-the_row-Word-5 shape patterns)))
     ∙ ap (p.more_clauses (words_from b (out-Clause (Clause' shape patterns body end)).patterns) (script_of b body) end) (clauses_listed b rest)
 
--- lists behind their rows
+-- lists by their rows
 
 pub word_row : (b : List ℕ) (ps : List Part) → word_of b (hidden-the_row-Part-0 ps) ≡ parts_from b ps
 word_row b ps = parts_listed b (hidden-the_row-Part-0 ps) ∙ ap (parts_from b) (items_hidden-the_row-Part-0 ps)

@@ -35,7 +35,7 @@ text_stop b ps i t h = rw (drop_all i ps h, append-nil) refl
 
 -- The bytes between `$'` and `'`
 
--- what the slice behind the first byte holds
+-- what the slice after the first byte holds
 abbrev behind : List ℕ → List ℕ
 behind cs = take (length cs - 1) (drop 1 cs)
 
@@ -46,7 +46,7 @@ behind_is cs = take_all (length cs - 1) (drop 1 cs) (omega (arith, length-drop 1
 one_more : (old new cs : List ℕ) (e : ℕ) (rest : List ℕ) → new ≡ old ++ (e ∷ []) → escaped cs ≡ e ∷ escaped rest → new ++ escaped rest ≡ old ++ escaped cs
 one_more old new cs e rest n h = rw (n, append_assoc, h) refl
 
--- a backslash and the byte behind it
+-- a backslash and the byte after it
 pub escape_step : (old new cs : List ℕ) (e : ℕ) → new ≡ old ++ (e ∷ []) → get_or cs 0 0 ≡ 92 → 1 ≤ length cs → 1 ≤ length (behind cs) → e ≡ escape_of (get_or (behind cs) 0 0)
     → new ++ escaped (behind (behind cs)) ≡ old ++ escaped cs
 unfolding escaped

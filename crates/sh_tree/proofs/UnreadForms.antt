@@ -1,4 +1,5 @@
--- Texts of forms that are left out by name, and bodies whose lines shells join in two ways: no script reads them.
+-- Texts of forms that are refused by name, and bodies whose lines shells join in two ways: no
+-- script reads them.
 use Rattle.std.proofs.Common.{◌≡◌, ℕ, true, ◌<◌, false, not, ◌&&◌, List, [], ◌∷◌, Some, None, length, take, codes, refl, sym, ap, ◌∙◌, subst, arith}
 use Rattle.std.proofs.lemmas.Bool.{true≢false}
 use Rattle.sh_tree.specs.declared.refusal.Form.TheVariants as form
@@ -192,7 +193,7 @@ joined_tab_unread t h =
 
 -- In a substitution in a body
 
--- behind the command before the comment
+-- after the command before the comment
 abbrev before_comment : State
 before_comment = record (at_token 8 2 1) { spot = record (at_word 8 2 1) { joins = true } }
 

@@ -95,7 +95,7 @@ open_document_unread t h =
     let end = document_is the_mark [] refl d.1 in
     apart is_some (sym end.3) refl refl
 
--- inside the substitution that stands in the body
+-- inside the substitution in the body
 abbrev inner_spot : Spot
 inner_spot = record { at = 6; count = 1; depth = 1; quiet = false; joins = true; tabs = false }
 
@@ -163,7 +163,7 @@ tabbed_document_unread t h =
     let f = first_part (sign.Substitution Paren) refl refl parts in
     tabbed_unread h.0 f.4.0 f.4.1 f.4.5
 
--- what stands between the braces of the outer group, up to `}` behind the redirection of the inner one
+-- what is between the braces of the outer group, up to `}` after the redirection of the inner one
 inner_group : (limit : ℕ) (body : ℕ → Document) (v : State) (c : Command) → ReadsCommand limit unclosed_text body (at_token 2 1 1) v c → v ≡ at_token 12 3 1
 unfolding computes
 inner_group limit body v c h =

@@ -1,4 +1,4 @@
--- A token of arithmetic that has no place in the expression is told where it stands.
+-- A token of arithmetic that has no place in the expression is reported where it is.
 use Rattle.std.proofs.Common.{◌≢◌, ℕ, ◌<◌, ◌≤◌, List, length, arith}
 use Rattle.sh_tree.specs.declared.token.arithmetic.Figure.{Figure}
 use Rattle.sh_tree.specs.declared.token.arithmetic.Figure.TheVariants as figure

@@ -1,4 +1,4 @@
--- However a word goes on, it ends behind no fewer commands than came before.
+-- However a word goes on, it ends after no fewer commands than came before.
 use Rattle.std.proofs.Common.{ℕ, ◌≤◌, inl, inr, List, [], ◌∷◌, ◌++◌, sym, le_refl, le_trans, subst}
 use Rattle.sh_tree.specs.declared.tree.Expr.{Expr}
 use Rattle.sh_tree.specs.declared.tree.Part.{Part}
@@ -58,7 +58,7 @@ module _ (b : List ℕ) (limit : ℕ) (g : Around) (u : Spot) (ps : List Part) w
   rest_count m (focus.Have e) h fs s r = then_count (context_in h) fs (one e) s r.1
   rest_count m (focus.Commands start style) h fs s r = absurd r
 
-  -- what is left of a word ends behind no fewer commands than came before
+  -- what is left of a word ends after no fewer commands than came before
   pub left_count : (w : WordBuilder) → Left b w limit g u ps → g.count ≤ u.count
   unfolding Left
   left_count w l = rest_count w.mode w.focus w.holder w.frames (here g w) l

@@ -13,7 +13,7 @@ use Rattle.sh_tree.specs.standard.language.States.{Spot, deeper}
 use Rattle.sh_tree.specs.standard.language.Substitutions.{backquote_end, closes, commands_text}
 use Rattle.sh_tree.proofs.Inversions.{script_is, no_sequence}
 
--- no token stands there
+-- no token is there
 lead_at_end : (b : List ℕ) (i : ℕ) → length b ≤ i → lead_at b First i ≡ lead.End
 unfolding lead_at lead_of operator_of operator longest
 lead_at_end b i beyond =
@@ -32,7 +32,7 @@ whole_text : (b : List ℕ) (e : ℕ) → length b ≤ e → commands_text Backq
 unfolding commands_text
 whole_text b e beyond = take_all (backquote_end b e) b (omega arith)
 
--- nothing stands there that closes commands between backquotes
+-- nothing is there that closes commands between backquotes
 pub closes_inside : (b : List ℕ) (i : ℕ) → closes Backquote b i ≡ true → i < length b
 unfolding closes is_last_backquote
 closes_inside b i h = ⊎_elim (λ same. absurd (nothing (omega arith))) (λ other. ⊎_elim (λ less. less) (λ more. absurd (nothing (omega arith))) other) (cases_order i (length b))

@@ -59,7 +59,7 @@ steps_alike b old other new (Err e) a s = refuses_alike b old other e a s
 pub steps_equal : (b : List ℕ) (old other new : WordBuilder) (res : Result (Option Next) Refusal) → other ≡ old → Steps b (Left b other) new res → Steps b (Left b old) new res
 steps_equal b old other new res e s = subst (λ v. Steps b (Left b v) new res) e s
 
--- the focus stands in its place where it was taken out
+-- the focus is in its place where it was taken out
 pub unfocused : (w : WordBuilder) (x : Focus) → w.focus ≡ x → focused w x ≡ w
 unfocused w x e = ap (λ v. focused w v) (sym e)
 
@@ -67,7 +67,7 @@ unfocused w x e = ap (λ v. focused w v) (sym e)
 pub reframed : (w : WordBuilder) (f : Frame) (fs : List Frame) (x : Focus) → w.frames ≡ f ∷ fs → framed (record w { frames = fs }) f x ≡ focused w x
 reframed w f fs x e = ap (λ v. record w { frames = v; focus = x }) (sym e)
 
--- a fault at its place refuses where no word is left
+-- a fault at its place refuses if no word is left
 pub fault_refuses : (b : List ℕ) (old : Leftover) (e : Refusal) → IsFault b e → Never old → Refuses b old e
 fault_refuses b old (Syntax f at) is none = (is, none)
 fault_refuses b old (LeftOut f at) is none = (is, none)

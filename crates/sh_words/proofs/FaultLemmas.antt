@@ -1,4 +1,4 @@
--- What is told where a word cannot go on stands at a place of the text.
+-- What is reported if a word cannot go on is at a place of the text.
 use Rattle.std.proofs.Common.{◌≡◌, ℕ, ◌-◌, ◌<◌, ◌≤◌, Bool, true, false, ◌&&◌, cond, List, [], ◌∷◌, length, Option, refl, sym}
 use Rattle.std.specs.Prelude.{is_some}
 use Rattle.std.proofs.lemmas.Bool.{true≢false, and_parts, cond-false}

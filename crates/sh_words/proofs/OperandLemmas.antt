@@ -180,7 +180,7 @@ open_figure _ is = absurd (true≢false (sym is))
 
 -- Choices
 
--- the place behind a choice
+-- the place after a choice
 choice_place : (g : Around) (s u w : Spot) → s ≡ spot g s.depth s.at → u ≡ behind u.at u s → behind w.at w u ≡ placed g u.depth w.at w
 choice_place g s u w is stays =
     ap (λ v. behind w.at w v) (stays ∙ ap (λ v. behind u.at u v) is) ∙ sym (ap (λ v. placed g v.depth w.at w) stays)
@@ -200,7 +200,7 @@ condition_back {s = s} {v = v} {y = y} g K is h (inr k) =
 
 -- Steps
 
--- what is entered a level deeper leaves the same words, where the limit lets it
+-- what is entered a level deeper leaves the same words, if the limit lets it
 entered : (b : List ℕ) (old : Leftover) (w new : WordBuilder) (f : Operation) (x : Focus) (end place : ℕ) (res : Result (Option Next) Refusal) → Enters w f x end place new res
     → place ≤ length b → (w.depth < 64 → Keeps b old (operating w f (w.depth + 1) x end)) → (64 ≤ w.depth → TooDeepFor old) → Steps b old new res
 entered b old w new f x end place (Ok None) is inside keeps deep = subst (λ v. Keeps b old v) (sym is.1) (keeps is.0)

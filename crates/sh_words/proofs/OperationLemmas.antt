@@ -1,4 +1,4 @@
--- What is left behind an operand of arithmetic.
+-- What is left after an operand of arithmetic.
 use Rattle.std.proofs.Common.{◌≡◌, ℕ, ◌+◌, ◌<◌, ◌≤◌, ◌⊎◌, inl, inr, Bool, true, false, List, [], ◌∷◌, ◌++◌, length, drop, ◌==◌, Option, Some, None, Result, Ok, Err, refl, sym, ap, ◌∙◌, subst, arith, length-drop}
 use Rattle.std.proofs.lemmas.Bool.{true≢false}
 use Rattle.std.proofs.lemmas.List.{append_assoc}
@@ -45,13 +45,13 @@ use Rattle.sh_words.specs.States.{context_in, given, had, operating, framed, foc
 
 -- Operands
 
--- where no operator of the level stands, no operand is read
+-- where there is no operator of the level, no operand is read
 operands_end : {limit : ℕ} {b : List ℕ} {x : Context} {l : ℕ} {s v : Spot} {es : List (Binary × Expr)} → binary_of l (figure_at b s) ≡ None → ReadsOperands limit b x l s v es
     → (v ≡ s) × (es ≡ [])
 operands_end none (r.no_operand h) = (refl, refl)
 operands_end none (r.more_operands h e os) = cc
 
--- else one is read behind it
+-- else one is read after it
 operands_go_on : {limit : ℕ} {b : List ℕ} {x : Context} {l : ℕ} {s v : Spot} {es : List (Binary × Expr)} (o : Binary) → binary_of l (figure_at b s) ≡ Some o
     → ReadsOperands limit b x l s v es
     → (u : Spot) × (e : Expr) × (others : List (Binary × Expr)) × (es ≡ (o, e) ∷ others) × ReadsLevel limit b x (l + 1) (over b s) u e × ReadsOperands limit b x l u v others
@@ -360,7 +360,7 @@ expansion_moves b w fs h depth start o e l new (Ok None) is q =
 expansion_moves b w fs h depth start o e l new (Ok (Some n)) is q = absurd q
 expansion_moves b w fs h depth start o e l new (Err f) is q = tt
 
--- a token that does not end the expansion is told
+-- a token that does not end the expansion is reported
 pub not_closed_faults : (b : List ℕ) (old new : WordBuilder) (h : Holder) (depth start : ℕ) (o : Opening) (e : Expr) (l : Lexeme) (f : Refusal) → IsFault b f → (IsClose b o l → ⊥)
     → ClosesArithmetic b old h depth start o e l new (Err f)
 not_closed_faults b old new h depth start o e l (Syntax f at) is other = (is, other)
@@ -374,7 +374,7 @@ module _ (b : List ℕ) (w : WordBuilder) (e : Expr) where
       → Keeps b (Left b (framed w (frame.Operation f) (focus.Have e))) new
   operand_keeps f l new is q = read_keeps b w e f new (subst (λ t. OperandRead w f e t new) is.0 q)
 
-  -- what is told where a token does not fit refuses
+  -- what is reported if a token does not fit refuses
   told_refuses : (f : Operation) (fits : Bool) (l : Lexeme) (r : Refusal) → IsLexeme b w.at l → Began b w.holder
       → (fits ≡ false → Never (Left b (framed w (frame.Operation f) (focus.Have e)))) → (r ≡ Memory) ⊎ ((fits ≡ false) × (r ≡ bad w.holder l.figure l.start))
       → Refuses b (Left b (framed w (frame.Operation f) (focus.Have e))) r

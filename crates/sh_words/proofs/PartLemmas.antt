@@ -338,7 +338,7 @@ ask_steps b w new style start end (Err (TooDeep at)) inside a = (
 )
 ask_steps b w new style start end _ inside a = absurd a
 
--- no commands begin behind the last byte of a text and end with a backquote of it
+-- no commands begin after the last byte of a text and end with a backquote of it
 pub unclosed_left : (b : List ℕ) (w : WordBuilder) (start end : ℕ) → length b ≤ end → Never (LeftPart b w (sign.Substitution Backquote) start end)
 unfolding LeftPart
 unclosed_left b w start end beyond limit g u ps l = let is = part_is l.2 in nothing_closes limit b g.body (spot g w.depth start) is.0 is.1 end beyond is.5 is.6

@@ -57,7 +57,7 @@ more_by w level first all l (Some o) = operating w (operation.More level first a
 abbrev pub more_read : WordBuilder → ℕ → Expr → List (Binary × Expr) → Binary → Expr → Lexeme → WordBuilder
 more_read w level first rest o e l = more_by w level first (rest ++ (o, e) ∷ []) l (binary_of level l.figure)
 
--- the token fits and the state is reached, or the token is reported, or memory is short
+-- the token fits and the state is reached, or the token is reported, or memory ran out
 abbrev pub Reaches : Bool → Refusal → WordBuilder → WordBuilder → Result (Unit {0}) Refusal → Type 0
 Reaches fits told state new (Ok u) = (fits ≡ true) × (new ≡ state)
 Reaches fits told state new (Err e) = (e ≡ Memory) ⊎ ((fits ≡ false) × (e ≡ told))

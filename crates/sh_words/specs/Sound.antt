@@ -99,7 +99,7 @@ module _ (b : List ℕ) where
   abbrev pub Begins : WordBuilder → Type 0
   Begins w = ((token b (context_of b w.mode w.at) (first_prior w.mode) w.at).sign ≡ sign.Stop) → ⊥
 
-  -- a word that begins takes bytes where its context does not end at once
+  -- a word that begins takes bytes unless its context ends at once
   abbrev pub TakesWord : WordBuilder → WordBuilder → Result Next Refusal → Type 0
   TakesWord old new (Ok (Done w)) = old.focus ≡ focus.Start → Begins old → old.at < new.at
   TakesWord old new _ = Unit {0}

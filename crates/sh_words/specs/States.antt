@@ -104,7 +104,7 @@ made opening.Arith start inside ps end = None
 
 -- States
 
--- the part was read, up to `end`; `next` is its last byte where that is plain, else 0
+-- the part was read, up to `end`; `next` is its last byte if that is plain, else 0
 abbrev pub given : WordBuilder → ℕ → Part → ℕ → WordBuilder
 given w next p end = record w { holder = held w.holder next p; focus = holding w.holder p; at = end }
 

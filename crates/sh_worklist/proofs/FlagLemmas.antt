@@ -104,7 +104,7 @@ in_word words index k le lt =
     let place : k % 64 ≡ k - 64 * index = omega arith in
     ap₂ (λ (m i : ℕ). eqb (bit_at (get_or words m 0) i) 1) word place
 
--- no number stands past the words
+-- no number is past the words
 pub past_words : (words : List ℕ) (k : ℕ) → 64 * length words ≤ k → has_bit k words ≡ false
 unfolding has_bit
 past_words words k le =
@@ -171,7 +171,7 @@ nowhere_all words from to index end before k le lt =
     (λ (h : 64 * index ≤ k). past_words words k (omega arith))
     (cases_lt k (64 * index))
 
--- no number from the first one of a word up to a number stands in the words
+-- no number from the first one of a word up to a number is in the words
 pub record IsAbove (words : List ℕ) (below left : ℕ) : Type 0 where
   pub within : left ≤ length words
   pub started : 64 * left < below + 64

@@ -58,6 +58,6 @@ EndsUnprinted None status e = EndsSilently status e
 EndsUnprinted (Some (Output, text)) status e = Fails (fault_line fault.Write) e
 EndsUnprinted (Some (Error, text)) status e = EndsSilently status e
 
--- the status is that of the ending, or of what follows where its text was not printed
+-- the status is that of the ending, or of what follows if its text was not printed
 abbrev pub IsStatusOf : Ending → ℕ → Type 0
 IsStatusOf e status = (status ≡ e.status) ⊎ ((last : Ending) × EndsUnprinted (message_of e) e.status last × (status ≡ last.status))

@@ -14,7 +14,7 @@ use Rattle.sh_domain.specs.Views.{Before, AfterZero, AfterNonzero, Head, Entry, 
 abbrev pub compact_header : Text
 compact_header = codes "shset certificate 2"
 
--- what is known at the start where nothing is declared, and its line
+-- what is known at the start if nothing is declared, and its line
 abbrev pub start : Claim
 start = known (codes "IFS OPTIND PPID") [] 0
 

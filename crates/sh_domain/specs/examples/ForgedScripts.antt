@@ -42,7 +42,7 @@ loop_gains_again_sheet =
     let b = known (codes "IFS OPTIND PPID l") [] 0 in
     record { commands = row a b b ∷ row a b a ∷ row b b b ∷ []; heads = (1, a) ∷ []; functions = [] }
 
--- the names of `read`, taken as set where it fails
+-- the names of `read`, taken as set if it fails
 -- `x=1 read g g;`, x declared, y declared
 abbrev pub failed_read_program : Items
 failed_read_program =
@@ -54,7 +54,7 @@ failed_read_sheet =
     let b = known (codes "IFS OPTIND PPID g x y") [] 0 in
     record { commands = row a b b ∷ []; heads = []; functions = [] }
 
--- the names of `read`, taken as set where it fails
+-- the names of `read`, taken as set if it fails
 -- `x=1 read g y; `, x declared, 2 positional parameters
 abbrev pub failed_read_again_program : Items
 failed_read_again_program =
@@ -109,7 +109,7 @@ prefix_kept_again_sheet =
           function (codes "g") c (dropping [] []) c c ∷ [];
     }
 
--- what a function sets, taken as set where the function may be undefined
+-- what a function sets, taken as set though the function may be undefined
 -- `if cd /; then f() { x=1; }; fi; f; echo "$x"`
 abbrev pub maybe_defined_program : Items
 maybe_defined_program =
@@ -130,8 +130,9 @@ maybe_defined_sheet =
           = function (codes "f") a (dropping [] []) c c ∷ [];
     }
 
--- what a function sets, taken as set where the function may be undefined
--- `f() { NL ! x="${x-$x}" NL } NL ( NL x=1 read -r x || x=1 NL read() { NL f() { NL export x NL } NL } NL x="$x" NL ) NL echo "$x"`, x declared
+-- what a function sets, taken as set though the function may be undefined
+-- `f() { NL ! x="${x-$x}" NL } NL ( NL x=1 read -r x || x=1 NL read() { NL f() { NL export x NL
+-- } NL } NL x="$x" NL ) NL echo "$x"`, x declared
 abbrev pub maybe_defined_again_program : Items
 maybe_defined_again_program =
     alone (compound 1 0 (Define (codes "f") (compound 2 4 (Group (more_items (and_or (pipeline true (more_commands (simple 3 8 (assignment
@@ -190,7 +191,7 @@ break_forgotten_sheet =
     }
 
 -- what is known at `break`, not counted after the loop
--- `f() { while :; do break 2; done; }; for i in a; do f; done; echo "$1"`, 1 positional parameters
+-- `f() { while :; do break 2; done; }; for i in a; do f; done; echo "$1"`, 1 positional parameter
 abbrev pub break_forgotten_again_program : Items
 break_forgotten_again_program =
     alone (compound 1 0 (Define (codes "f") (compound 2 4 (Group (lone (compound 3 6 (Loop loop.While (lone (simple 4 12 (text (codes ":")
@@ -213,7 +214,8 @@ break_forgotten_again_sheet =
     }
 
 -- a function, taken as defined after `unset` of its name
--- `f() ( NL unset -f g NL ) NL g() ( NL export x="$x" NL ) NL unset f NL { NL unset -f f NL unset -v x NL cmd NL } NL echo "${#y}"`, 1 positional parameters
+-- `f() ( NL unset -f g NL ) NL g() ( NL export x="$x" NL ) NL unset f NL { NL unset -f f NL
+-- unset -v x NL cmd NL } NL echo "${#y}"`, 1 positional parameter
 abbrev pub function_kept_program : Items
 function_kept_program =
     alone (compound 1 0 (Define (codes "f") (compound 2 4 (Subshell (lone (simple 3 6 (text (codes "unset") (text (codes "-f") (text (codes "g")
@@ -239,7 +241,8 @@ function_kept_sheet =
     }
 
 -- a function, taken as defined after `unset` of its name
--- `f() { NL ! f a NL } NL if cmd NL then NL unset y f && unset x NL exit 1 NL echo "$x" NL else NL echo $# "$y" NL fi NL echo "$1" "$2"`, x declared, 1 positional parameters
+-- `f() { NL ! f a NL } NL if cmd NL then NL unset y f && unset x NL exit 1 NL echo "$x" NL else NL
+-- echo $# "$y" NL fi NL echo "$1" "$2"`, x declared, 1 positional parameter
 abbrev pub function_kept_again_program : Items
 function_kept_again_program =
     alone (compound 1 0 (Define (codes "f") (compound 2 4 (Group (more_items (and_or (pipeline true (more_commands (simple 3 8 (text (codes "f")
@@ -275,7 +278,8 @@ never_entered_sheet =
     record { commands = row Unreached Unreached Unreached ∷ []; heads = []; functions = [] }
 
 -- what a subshell sets, taken as set outside
--- `f() { NL h() if cmd NL then NL y=~ NL fi NL } NL h() { NL echo "$x" NL } NL : "$z" & NL x=1 g NL ( NL HOME=1 NL ) & NL echo "${#HOME}"`, x declared
+-- `f() { NL h() if cmd NL then NL y=~ NL fi NL } NL h() { NL echo "$x" NL } NL : "$z" & NL x=1 g NL
+-- ( NL HOME=1 NL ) & NL echo "${#HOME}"`, x declared
 abbrev pub subshell_changes_program : Items
 subshell_changes_program =
     alone (compound 1 0 (Define (codes "f") (compound 2 4 (Group (lone (compound 3 6 (Define (codes "h") (compound 4 10 (Conditional (more_branches
@@ -303,7 +307,8 @@ subshell_changes_sheet =
     }
 
 -- what a subshell sets, taken as set outside
--- `f() { NL ! x="${x-$x}" NL } NL ( NL x=1 read -r x || x=1 NL read() { NL f() { NL export x NL } NL } NL x="$x" NL ) NL echo "$x"`, x declared
+-- `f() { NL ! x="${x-$x}" NL } NL ( NL x=1 read -r x || x=1 NL read() { NL f() { NL export x NL
+-- } NL } NL x="$x" NL ) NL echo "$x"`, x declared
 abbrev pub subshell_changes_again_program : Items
 subshell_changes_again_program =
     alone (compound 1 0 (Define (codes "f") (compound 2 4 (Group (more_items (and_or (pipeline true (more_commands (simple 3 8 (assignment
@@ -352,7 +357,8 @@ parameters_of_callee_sheet =
     }
 
 -- the positional parameters of a function, taken for those of the caller
--- `read() { NL echo $# "$!" NL } NL echo $((x)) NL echo "$x" && read -r x || { NL x= NL } NL echo "$x"`, x declared
+-- `read() { NL echo $# "$!" NL } NL echo $((x)) NL echo "$x" && read -r x || { NL x= NL } NL
+-- echo "$x"`, x declared
 abbrev pub parameters_of_callee_again_program : Items
 parameters_of_callee_again_program =
     alone (compound 1 0 (Define (codes "read") (compound 2 7 (Group (lone (simple 3 9 (text (codes "echo") (operand (only (Expansion 14 (Special
@@ -401,7 +407,8 @@ empty_clause_sheet =
     record { commands = row a Unreached a ∷ row a a Unreached ∷ row Unreached Unreached Unreached ∷ []; heads = []; functions = [] }
 
 -- a clause without a list, taken as zero
--- `f() ( NL cat <<E >"$x" NL $x NL E NL ) NL g() { NL unset -v x NL } NL ! case "$x" in NL (* | "$x") NL ;; NL esac && unset y NL echo "$x"`, x declared, 1 positional parameters
+-- `f() ( NL cat <<E >"$x" NL $x NL E NL ) NL g() { NL unset -v x NL } NL ! case "$x" in NL
+-- (* | "$x") NL ;; NL esac && unset y NL echo "$x"`, x declared, 1 positional parameter
 abbrev pub empty_clause_again_program : Items
 empty_clause_again_program =
     alone (compound 1 0 (Define (codes "f") (compound 2 4 (Subshell (lone (simple 3 6 (text (codes "cat") (redirection (Here (more_parts (Expansion
@@ -426,7 +433,8 @@ empty_clause_again_sheet =
     }
 
 -- `!`, taken as set in a process that is started
--- `( y w; NL )& NL cd /; NL set a "$@"; getopts ab x || x=1 read x IFS | export x=${IFS?};`, x declared, 2 positional parameters
+-- `( y w; NL )& NL cd /; NL set a "$@"; getopts ab x || x=1 read x IFS | export x=${IFS?};`, x
+-- declared, 2 positional parameters
 abbrev pub job_in_process_program : Items
 job_in_process_program =
     more_items (and_or (piece (compound 1 0 (Subshell (lone (simple 2 2 (text (codes "y") (text (codes "w") no_elements))))))) no_links) true (alone
@@ -445,7 +453,8 @@ job_in_process_sheet =
     record { commands = row a a a ∷ row a a a ∷ row b b b ∷ row b c b ∷ row b b b ∷ row b b b ∷ row b b b ∷ []; heads = []; functions = [] }
 
 -- `!`, taken as set in a process that is started
--- `f() { NL h() if cmd NL then NL y=~ NL fi NL } NL h() { NL echo "$x" NL } NL : "$z" & NL x=1 g NL ( NL HOME=1 NL ) & NL echo "${#HOME}"`, x declared
+-- `f() { NL h() if cmd NL then NL y=~ NL fi NL } NL h() { NL echo "$x" NL } NL : "$z" & NL x=1 g NL
+-- ( NL HOME=1 NL ) & NL echo "${#HOME}"`, x declared
 abbrev pub job_in_process_again_program : Items
 job_in_process_again_program =
     alone (compound 1 0 (Define (codes "f") (compound 2 4 (Group (lone (compound 3 6 (Define (codes "h") (compound 4 10 (Conditional (more_branches
@@ -487,7 +496,7 @@ failed_redirection_sheet =
     let c = known (codes "IFS OPTIND PPID x y") [] 0 in
     record { commands = row a b b ∷ row c Unreached c ∷ []; heads = (1, b) ∷ []; functions = [] }
 
--- what is known where a function returns, taken as known where a redirection of its call failed
+-- what is known where a function returns, taken as known if a redirection of its call failed
 -- `f() { x=1; false; }; f >a`
 abbrev pub failed_call_program : Items
 failed_call_program =
@@ -507,7 +516,8 @@ failed_call_sheet =
     }
 
 -- a failed redirection of a compound command, not counted
--- `for x do export f; read -r g >"${y=f}"; done && if ! g "in"& then unset -f f <"$x"; NL fi >"${y=f}"; ! false;`, x declared
+-- `for x do export f; read -r g >"${y=f}"; done && if ! g "in"& then unset -f f <"$x"; NL
+-- fi >"${y=f}"; ! false;`, x declared
 abbrev pub failed_redirection_again_program : Items
 failed_redirection_again_program =
     more_items (and_or (piece (compound 1 0 (For (codes "x") every_parameter (alone (simple 2 9 (text (codes "export") (text (codes "f")

@@ -56,7 +56,8 @@ script_42_sheet =
       functions = function (codes "f") c (dropping [] []) c c ∷ [];
     }
 
--- `while x=$1 read -r x NL do NL f() { NL >"$((!x))" NL } NL f "$@" && read -r x NL done NL echo "$x"`
+-- `while x=$1 read -r x NL do NL f() { NL >"$((!x))" NL } NL f "$@" && read -r x NL done NL
+-- echo "$x"`
 abbrev pub script_43_program : Items
 script_43_program =
     alone (compound 1 0 (Loop loop.While (lone (simple 2 6 (assignment (codes "x") (only (Expansion 8 (Positional 1) Value)) (text (codes "read")
@@ -136,7 +137,8 @@ script_46_sheet =
           function (codes "f") c (dropping [] []) c c ∷ [];
     }
 
--- `f() { NL return "$x" >"$x" || x=${x:=2} NL } NL for x NL do NL x=${x:=2} g "$x" 2>"$x" NL done NL echo "$x"`
+-- `f() { NL return "$x" >"$x" || x=${x:=2} NL } NL for x NL do NL x=${x:=2} g "$x" 2>"$x" NL
+-- done NL echo "$x"`
 abbrev pub script_47_program : Items
 script_47_program =
     alone (compound 1 0 (Define (codes "f") (compound 2 4 (Group (more_items (and_or (piece (simple 3 6 (text (codes "return") (operand (only (quoted
@@ -158,7 +160,8 @@ script_47_sheet =
           [];
     }
 
--- `f() { NL echo "$1" $# NL } NL : "$1" NL export OPTARG=1 | NL OPTARG="$1" NL echo "$x" "$x" NL echo "$1"`
+-- `f() { NL echo "$1" $# NL } NL : "$1" NL export OPTARG=1 | NL OPTARG="$1" NL echo "$x" "$x" NL
+-- echo "$1"`
 abbrev pub script_48_program : Items
 script_48_program =
     alone (compound 1 0 (Define (codes "f") (compound 2 4 (Group (lone (simple 3 6 (text (codes "echo") (operand (only (quoted_parameter 12
@@ -181,7 +184,8 @@ script_48_sheet =
       functions = function (codes "f") Unreached (dropping [] []) Unreached Unreached ∷ [];
     }
 
--- `f() ( NL cat <<E >"$x" NL $x NL E NL ) NL g() { NL unset -v x NL } NL ! case "$x" in NL (* | "$x") NL ;; NL esac && unset y NL echo "$x"`
+-- `f() ( NL cat <<E >"$x" NL $x NL E NL ) NL g() { NL unset -v x NL } NL ! case "$x" in NL
+-- (* | "$x") NL ;; NL esac && unset y NL echo "$x"`
 abbrev pub script_49_program : Items
 script_49_program =
     alone (compound 1 0 (Define (codes "f") (compound 2 4 (Subshell (lone (simple 3 6 (text (codes "cat") (redirection (Here (more_parts (Expansion
@@ -205,7 +209,8 @@ script_49_sheet =
           Unreached (dropping [] []) Unreached Unreached ∷ function (codes "g") Unreached (dropping [] []) Unreached Unreached ∷ [];
     }
 
--- `f() { NL return NL } NL echo "$x" NL x() { NL cat <<E NL ${x+${x:=1}} NL E NL } <"${x=1}" NL echo "$2" "$x" NL echo "$x"`
+-- `f() { NL return NL } NL echo "$x" NL x() { NL cat <<E NL ${x+${x:=1}} NL E NL } <"${x=1}" NL
+-- echo "$2" "$x" NL echo "$x"`
 abbrev pub script_50_program : Items
 script_50_program =
     alone (compound 1 0 (Define (codes "f") (compound 2 4 (Group (lone (simple 3 6 (text (codes "return") no_elements))))))) (alone (simple 4 15
@@ -229,7 +234,8 @@ script_50_sheet =
           Unreached (dropping [] []) Unreached Unreached ∷ function (codes "x") Unreached (dropping [] []) Unreached Unreached ∷ [];
     }
 
--- `f() { NL ! echo "$x" NL } NL cd() { NL x=~ x=1 read x "${x=1}" NL } <"$x" NL echo $# $((OPTARG)) NL echo $((x))`
+-- `f() { NL ! echo "$x" NL } NL cd() { NL x=~ x=1 read x "${x=1}" NL } <"$x" NL
+-- echo $# $((OPTARG)) NL echo $((x))`
 abbrev pub script_51_program : Items
 script_51_program =
     alone (compound 1 0 (Define (codes "f") (compound 2 4 (Group (more_items (and_or (pipeline true (more_commands (simple 3 8 (text (codes "echo")
@@ -253,7 +259,8 @@ script_51_sheet =
           (dropping [] []) Unreached Unreached ∷ function (codes "cd") Unreached (dropping [] []) Unreached Unreached ∷ [];
     }
 
--- `set a "$@" | : ${x%}; until exit; do read -r IFS; true; done; NL g() { x; NL x=1 IFS a >f || :; }; `
+-- `set a "$@" | : ${x%}; until exit; do read -r IFS; true; done; NL g() { x; NL
+-- x=1 IFS a >f || :; }; `
 abbrev pub script_52_program : Items
 script_52_program =
     more_items (and_or (pipeline false (more_commands (simple 1 0 (text (codes "set") (text (codes "a") (operand (only (quoted_parameter 7 (Special
@@ -278,7 +285,8 @@ script_52_sheet =
           (dropping [] []) Unreached Unreached ∷ [];
     }
 
--- `f() ( NL echo "$x" NL ) NL getopts ab OPTARG || if y=$y || false ~ NL then NL case $x in NL (a) NL x="$1" NL ;; NL esac NL fi NL echo "$y"`
+-- `f() ( NL echo "$x" NL ) NL getopts ab OPTARG || if y=$y || false ~ NL then NL case $x in NL
+-- (a) NL x="$1" NL ;; NL esac NL fi NL echo "$y"`
 abbrev pub script_53_program : Items
 script_53_program =
     alone (compound 1 0 (Define (codes "f") (compound 2 4 (Subshell (lone (simple 3 6 (text (codes "echo") (operand (only (quoted 12 (codes "x")))
@@ -304,7 +312,8 @@ script_53_sheet =
           Unreached ∷ [];
     }
 
--- `! g() { case ${x%\z} in a|"$y") x=1 read y f | set -e; NL return 0; ! g "it's"; NL ;& *)  esac; NL }; `
+-- `! g() { case ${x%\z} in a|"$y") x=1 read y f | set -e; NL return 0; ! g "it's"; NL
+-- ;& *)  esac; NL }; `
 abbrev pub script_54_program : Items
 script_54_program =
     more_items (and_or (pipeline true (more_commands (compound 1 2 (Define (codes "g") (compound 2 6 (Group (lone (compound 3 8 (Case (only
@@ -328,7 +337,8 @@ script_54_sheet =
           function (codes "g") Unreached (dropping [] []) Unreached Unreached ∷ [];
     }
 
--- `unset IFS && x=1 read g g | shift 2; case ${1+} in a|"$y") x="$!" x=1; ;; *) ;& esac || shift <"$x"; `
+-- `unset IFS && x=1 read g g | shift 2; case ${1+} in a|"$y") x="$!" x=1; ;; *) ;& esac || shift
+-- <"$x"; `
 abbrev pub script_55_program : Items
 script_55_program =
     more_items (and_or (piece (simple 1 0 (text (codes "unset") (text (codes "IFS") no_elements)))) (more_links link.AndThen (pipeline false
@@ -348,7 +358,8 @@ script_55_sheet =
     let d = known (codes "OPTIND PPID x") [] 0 in
     record { commands = row a b b ∷ row b c b ∷ row b b b ∷ row b b b ∷ row b d d ∷ row b b b ∷ []; heads = []; functions = [] }
 
--- `g() if cmd NL then NL echo "$1" "$!" NL fi NL g() if cmd NL then NL g() { NL g "$y" "$y" NL } NL >"$x" NL y="$x" x=1 read y y NL fi NL echo "$y"`
+-- `g() if cmd NL then NL echo "$1" "$!" NL fi NL g() if cmd NL then NL g() { NL g "$y" "$y" NL } NL
+-- >"$x" NL y="$x" x=1 read y y NL fi NL echo "$y"`
 abbrev pub script_56_program : Items
 script_56_program =
     alone (compound 1 0 (Define (codes "g") (compound 2 4 (Conditional (more_branches (lone (simple 3 7 (text (codes "cmd") no_elements))) (lone
@@ -372,7 +383,8 @@ script_56_sheet =
       functions = function (codes "g") Unreached (dropping [] []) Unreached Unreached ∷ [];
     }
 
--- `for x do export f; read -r g >"${y=f}"; done && if ! g "in"& then unset -f f <"$x"; NL fi >"${y=f}"; ! false;`
+-- `for x do export f; read -r g >"${y=f}"; done && if ! g "in"& then unset -f f <"$x"; NL
+-- fi >"${y=f}"; ! false;`
 abbrev pub script_57_program : Items
 script_57_program =
     more_items (and_or (piece (compound 1 0 (For (codes "x") every_parameter (alone (simple 2 9 (text (codes "export") (text (codes "f")
@@ -396,7 +408,8 @@ script_57_sheet =
       functions = [];
     }
 
--- `g() { read -r g; set -- "$0" [; x=1 read x IFS; NL }; NL for x do trap - INT; getopts ab y; NL exit; done >f; unset g | set a "$@";`
+-- `g() { read -r g; set -- "$0" [; x=1 read x IFS; NL }; NL for x do trap - INT; getopts ab y; NL
+-- exit; done >f; unset g | set a "$@";`
 abbrev pub script_58_program : Items
 script_58_program =
     alone (compound 1 0 (Define (codes "g") (compound 2 4 (Group (alone (simple 3 6 (text (codes "read") (text (codes "-r") (text (codes "g")
@@ -423,7 +436,8 @@ script_58_sheet =
       functions = function (codes "g") Unreached (dropping [] []) Unreached Unreached ∷ [];
     }
 
--- `f() { NL set -- "${x=1}" "${x+${x}}" NL } NL until ! x= && : || true NL do NL unset -f f NL readonly x=~ NL done NL f "$x" >"$x" NL echo "$x"`
+-- `f() { NL set -- "${x=1}" "${x+${x}}" NL } NL until ! x= && : || true NL do NL unset -f f NL
+-- readonly x=~ NL done NL f "$x" >"$x" NL echo "$x"`
 abbrev pub script_59_program : Items
 script_59_program =
     alone (compound 1 0 (Define (codes "f") (compound 2 4 (Group (lone (simple 3 6 (text (codes "set") (text (codes "--") (operand (only (Double
@@ -449,7 +463,8 @@ script_59_sheet =
           (dropping [] []) b c ∷ [];
     }
 
--- `x=1 x=1 set --  NL { NL case "${x%a}" in NL ("$(echo)") NL x="$-" f "$*" | NL set -- ~ a || read -r x NL ;; NL esac & NL } NL echo $((x)) NL echo "$x"`
+-- `x=1 x=1 set --  NL { NL case "${x%a}" in NL ("$(echo)") NL x="$-" f "$*" | NL
+-- set -- ~ a || read -r x NL ;; NL esac & NL } NL echo $((x)) NL echo "$x"`
 abbrev pub script_60_program : Items
 script_60_program =
     alone (simple 1 0 (assignment (codes "x") (plain (codes "1")) (assignment (codes "x") (plain (codes "1")) (text (codes "set") (text (codes "--")
@@ -476,7 +491,8 @@ script_60_sheet =
       functions = [];
     }
 
--- `f() { NL y=$1 NL x= read y x NL } NL until echo $# "$1" NL do NL ! g $(((x=1) || x)) "${x=1}" NL export y=$y NL g() { NL x=$x g $! NL } NL done NL echo "$x"`
+-- `f() { NL y=$1 NL x= read y x NL } NL until echo $# "$1" NL do NL ! g $(((x=1) || x)) "${x=1}" NL
+-- export y=$y NL g() { NL x=$x g $! NL } NL done NL echo "$x"`
 abbrev pub script_61_program : Items
 script_61_program =
     alone (compound 1 0 (Define (codes "f") (compound 2 4 (Group (alone (simple 3 6 (assignment (codes "y") (only (Expansion 8 (Positional 1) Value))
@@ -507,7 +523,9 @@ script_61_sheet =
           function (codes "f") Unreached (dropping [] []) Unreached Unreached ∷ function (codes "g") h (dropping [] []) h h ∷ [];
     }
 
--- `g() { NL f() { NL ! x=$((1 ? 2 : (y=1))) x=1 exec | NL f "${x}" "$x" NL } NL } NL getopts "$x" OPTARG & NL set --  NL echo "$x" NL ! readonly x=1 | NL x=1 getopts "$x" x && y=1 NL echo "$x"`
+-- `g() { NL f() { NL ! x=$((1 ? 2 : (y=1))) x=1 exec | NL f "${x}" "$x" NL } NL } NL
+-- getopts "$x" OPTARG & NL set --  NL echo "$x" NL ! readonly x=1 | NL x=1 getopts "$x" x && y=1 NL
+-- echo "$x"`
 abbrev pub script_62_program : Items
 script_62_program =
     alone (compound 1 0 (Define (codes "g") (compound 2 4 (Group (lone (compound 3 6 (Define (codes "f") (compound 4 10 (Group (more_items (and_or
@@ -537,7 +555,9 @@ script_62_sheet =
           (dropping [] []) Unreached Unreached ∷ [];
     }
 
--- `f() { NL f() { NL true "$x" NL } NL } NL ( NL x=1 f | NL unset OPTARG NL x=~ f | NL for OPTARG in a NL do NL f NL done & NL OPTARG=${x:=2} f NL ) | NL f "${x-$x}" | NL unset -v OPTARG & NL echo "$x"`
+-- `f() { NL f() { NL true "$x" NL } NL } NL ( NL x=1 f | NL unset OPTARG NL x=~ f | NL
+-- for OPTARG in a NL do NL f NL done & NL OPTARG=${x:=2} f NL ) | NL f "${x-$x}" | NL
+-- unset -v OPTARG & NL echo "$x"`
 abbrev pub script_63_program : Items
 script_63_program =
     alone (compound 1 0 (Define (codes "f") (compound 2 4 (Group (lone (compound 3 6 (Define (codes "f") (compound 4 10 (Group (lone (simple 5 12
@@ -565,7 +585,8 @@ script_63_sheet =
       functions = function (codes "f") b (dropping [] []) b Unreached ∷ [];
     }
 
--- `f() { NL x=~ f && while cmd a NL do NL f "$1" $! NL done NL x="$1" f "$#" ~ NL x=1 return 1 NL } NL cat <<E >"$x" NL ${x} NL E NL echo $# || ! x=1 || f ${x+"$#"} & NL echo "$x"`
+-- `f() { NL x=~ f && while cmd a NL do NL f "$1" $! NL done NL x="$1" f "$#" ~ NL x=1 return 1 NL
+-- } NL cat <<E >"$x" NL ${x} NL E NL echo $# || ! x=1 || f ${x+"$#"} & NL echo "$x"`
 abbrev pub script_64_program : Items
 script_64_program =
     alone (compound 1 0 (Define (codes "f") (compound 2 4 (Group (more_items (and_or (piece (simple 3 6 (assignment (codes "x") (only (Tilde 8 []))
@@ -597,7 +618,8 @@ script_64_sheet =
           Unreached Unreached ∷ [];
     }
 
--- `while f "$@" >"${y=f}"; do OPTARG=1; NL done | g() { cd /; } || y=1 g a | case a~ in a|"$y") f "$@"& NL ;; *) unset -f g && set a "$@" | :; g; NL ;; esac || set -e;`
+-- `while f "$@" >"${y=f}"; do OPTARG=1; NL done | g() { cd /; } || y=1 g a | case a~ in a|"$y") f
+-- "$@"& NL ;; *) unset -f g && set a "$@" | :; g; NL ;; esac || set -e;`
 abbrev pub script_65_program : Items
 script_65_program =
     more_items (and_or (pipeline false (more_commands (compound 1 0 (Loop loop.While (lone (simple 2 6 (text (codes "f") (operand (only
@@ -628,7 +650,9 @@ script_65_sheet =
       functions = function (codes "g") d (dropping [] []) d d ∷ [];
     }
 
--- `f() { NL shift 1 NL } NL echo "$!" NL false NL echo "$2" NL while echo "$x" NL do NL case a in NL (a) NL echo "$x" $# NL ;& NL (*) NL ;; NL (* | "$x") NL x= x="${x:?$x}" NL ;; NL esac <"${x=1}" >"$x" NL done | NL x=1 f || x=1 NL echo $((x)) NL echo "$x"`
+-- `f() { NL shift 1 NL } NL echo "$!" NL false NL echo "$2" NL while echo "$x" NL do NL
+-- case a in NL (a) NL echo "$x" $# NL ;& NL (*) NL ;; NL (* | "$x") NL x= x="${x:?$x}" NL ;; NL
+-- esac <"${x=1}" >"$x" NL done | NL x=1 f || x=1 NL echo $((x)) NL echo "$x"`
 abbrev pub script_66_program : Items
 script_66_program =
     alone (compound 1 0 (Define (codes "f") (compound 2 4 (Group (lone (simple 3 6 (text (codes "shift") (text (codes "1") no_elements)))))))) (alone

@@ -274,7 +274,7 @@ script_49_sheet =
       functions = function (codes "f") b (dropping [] []) Unreached Unreached ∷ [];
     }
 
--- `f() { while :; do break 2; done; }; for i in a; do f; done; echo "$1"`, 1 positional parameters
+-- `f() { while :; do break 2; done; }; for i in a; do f; done; echo "$1"`, 1 positional parameter
 abbrev pub script_50_program : Items
 script_50_program =
     alone (compound 1 0 (Define (codes "f") (compound 2 4 (Group (lone (compound 3 6 (Loop loop.While (lone (simple 4 12 (text (codes ":")

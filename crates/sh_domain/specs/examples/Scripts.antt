@@ -523,7 +523,8 @@ script_39_sheet =
       functions = function (codes "f") Unreached (dropping [] []) Unreached Unreached ∷ [];
     }
 
--- `cmd NL echo "$x" "${#x}" NL case "$!" in NL (a) NL shift 2 NL ;; NL (a | "$y") NL ;& NL esac NL echo "$x"`
+-- `cmd NL echo "$x" "${#x}" NL case "$!" in NL (a) NL shift 2 NL ;; NL (a | "$y") NL ;& NL esac NL
+-- echo "$x"`
 abbrev pub script_40_program : Items
 script_40_program =
     alone (simple 1 0 (text (codes "cmd") no_elements)) (alone (simple 2 4 (text (codes "echo") (operand (only (quoted 10 (codes "x"))) (operand

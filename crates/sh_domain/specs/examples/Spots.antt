@@ -22,8 +22,9 @@ pub record SpotsAsExpected : Type 0 where
   pub nested :
       items_spots script_44_program
       ≡ OfCommand 0 ∷ OfWord 13 ∷ OfWord 18 ∷ OfCommand 31 ∷ OfWord 34 ∷ OfWord 39 ∷ OfWord 42 ∷ OfWord 53 ∷ OfCommand 64 ∷ OfWord 70 ∷ []
-  -- `f() ( NL cat <<E >"$x" NL $x NL E NL ) NL g() { NL unset -v x NL } NL ! case "$x" in NL (* | "$x") NL ;; NL esac && unset y NL echo "$x"`: the
-  -- body of a here-document is after the line of its operator
+  -- `f() ( NL cat <<E >"$x" NL $x NL E NL ) NL g() { NL unset -v x NL } NL ! case "$x" in NL
+  -- (* | "$x") NL ;; NL esac && unset y NL echo "$x"`: the body of a here-document is after the
+  -- line of its operator
   pub here_document :
       items_spots script_49_program
       ≡ OfCommand 0 ∷ OfCommand 4 ∷ OfCommand 6 ∷ OfWord 20 ∷ OfWord 16 ∷ OfCommand 27 ∷ OfCommand 31 ∷ OfCommand 33 ∷ OfCommand 48 ∷ OfWord 54 ∷ OfWord 67

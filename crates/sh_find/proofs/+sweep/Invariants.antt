@@ -10,7 +10,7 @@ use Rattle.sh_find.proofs.PlacedLemmas.{GoesOn}
 use Rattle.sh_find.proofs.WordLemmas.{Along}
 use Rattle.sh_find.proofs.+sweep.Given as goal
 
--- In each loop the certificate was swept so far, and what is left of the list stands behind that.
+-- In each loop the certificate was swept so far, and what is left of the list comes after that.
 
 abbrev pub invariant-sweep::sweep_items-loop-place : goal.invariant-sweep::sweep_items-loop-place
 invariant-sweep::sweep_items-loop-place l = record {
@@ -92,7 +92,8 @@ invariant-rounds::sweep_rounds-loop-round l = record { swept : IsSwept l.subject
 abbrev pub invariant-bodies::sweep_called-loop-number : goal.invariant-bodies::sweep_called-loop-number
 invariant-bodies::sweep_called-loop-number l = record { swept : IsSwept l.subject l.initial.draft.certificate l.draft.certificate l.draft.probe.count }
 
--- Each level that is gone into takes one of the levels, and within a level each call is a step further in.
+-- Each level that is gone into takes one of the levels, and within a level each call is a step
+-- further in.
 
 abbrev pub decreases-sweep::sweep_looked : goal.decreases-sweep::sweep_looked
 decreases-sweep::sweep_looked l = l.levels * 64 + 42

@@ -266,7 +266,7 @@ pub record UsesAsExpected : Type 0 where
   pub assigned_quoted_splits : fields_of_word bare_start [] (used action.Assign (only (Double (plain (codes "a b"))))) ≡ codes "a" ∷ codes "b" ∷ []
   pub assigned_whole : x_behind bare_start (used action.Assign (plain (codes "a b"))) ≡ Some (codes "a b")
   pub quoted_alternative : fields_of_word bare_start [] (only (Double (used action.Alternative w_word))) ≡ [] ∷ []
-  -- `${x%w}`: the answer's text; where x is not set, that is met
+  -- `${x%w}`: the answer's text; if x is not set, that is met
   pub removed : fields_by (λ n. record quiet_given { text = codes "t" }) (start_with (codes "tw")) [] (only (expansion 0 (Remove removal.ShortSuffix w_word))) ≡ codes "t" ∷ []
   pub removed_unset : map (λ e. is_unset e (only (expansion 0 (Remove removal.ShortSuffix w_word)))) three_starts ≡ true ∷ false ∷ false ∷ []
   -- `~`, `~/a`, `~` with a blank in HOME, and without HOME; `~user`
@@ -303,7 +303,7 @@ pub record ComputedAsExpected : Type 0 where
   pub expanded_nothing : strays (start_with []) expanded_sum ≡ true
   pub expanded_unset : is_unset bare_start expanded_sum ≡ true
   pub expanded_blanks : map (λ t. strays (start_with t) expanded_sum) (codes " 5 " ∷ codes "\t-0x1F\n" ∷ codes " " ∷ codes "1 2" ∷ []) ≡ false ∷ false ∷ true ∷ true ∷ []
-  -- `$((x + 1))`: x may be empty, and blanks may stand round its value
+  -- `$((x + 1))`: x may be empty, and blanks may be round its value
   pub named_value :
       map (λ t. strays (start_with t) named_sum) ([] ∷ codes " " ∷ codes " 5 " ∷ codes "\t-0x1F\n" ∷ codes "1 2" ∷ codes "- 1" ∷ codes "a" ∷ [])
       ≡ false ∷ false ∷ false ∷ false ∷ true ∷ true ∷ true ∷ []

@@ -93,7 +93,7 @@ abbrev pub conditional : p.Items → p.Items → p.Items → p.Items → p.Items
 conditional first then_first second then_second otherwise =
     p.Conditional (p.more_branches first then_first (p.more_branches second then_second p.no_branches)) (p.else_of otherwise)
 
--- Places at which a command may stand: one with `eval` in it
+-- Places at which a command may be: one with `eval` in it
 
 abbrev pub evaluates : p.Items
 evaluates = says (codes "eval")

@@ -77,7 +77,7 @@ pub record RowsAsExpected : Type 0 where
       (map in_shell (in_for (line (codes "break 0") ∷ []) ∷ in_for (line (codes "continue x") ∷ []) ∷ (line (codes ". x") ∷ []) ∷ (line (codes "eval x") ∷ [])
       ∷ (line (codes "trap x INT") ∷ []) ∷ (line (codes "trap -- x INT") ∷ []) ∷ (line (codes "command eval x") ∷ []) ∷ (line (codes "command -p eval x") ∷ [])
       ∷ (line (codes "alias x") ∷ []) ∷ []))
-  -- `"$x"` where x is `eval`
+  -- `"$x"` if x is `eval`
   pub computed : comes_to lacks_row 100 0 quiet (start_world (start_with (codes "eval")) [] (list (utility (quoted_x ∷ []) ∷ []))) ≡ true
   -- jumps in loops, of one and of more; a loop in a function, a function in a loop; a jump in a
   -- condition; `return` in a loop of a function

@@ -564,7 +564,7 @@ pub record RunsAsExpected : Type 0 where
   pub fault_ends : lives 0 (ran bare_start [] (colon (x_used action.Fault false)) (steps 0 5)) ≡ Some false
   pub fault_sets_nothing : x_is (ran bare_start [] (colon (x_used action.Fault false)) (steps 0 5)) ≡ Some None
   pub no_fault : lives 0 (ran (start_with (codes "v")) [] (colon (x_used action.Fault false)) (steps 0 5)) ≡ Some true
-  -- `echo $x` with `a b`: a Split event; `echo "$x"`: none; where x is not set, an Unset event
+  -- `echo $x` with `a b`: a Split event; `echo "$x"`: none; if x is not set, an Unset event
   pub bare_splits : split_next (ran (start_with (codes "a b")) [] (echo bare_x) (steps 0 4)) ≡ Some true
   pub quoted_stays_whole : split_next (ran (start_with (codes "a b")) [] (echo quoted_x) (steps 0 4)) ≡ Some false
   pub quoted_is_unset : unset_next (ran bare_start [] (echo quoted_x) (steps 0 4)) ≡ Some true

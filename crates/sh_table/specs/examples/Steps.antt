@@ -373,7 +373,7 @@ pub record AssignmentsAsExpected : Type 0 where
       seen put_back (x ∷ z ∷ [])
       (assign x (codes "0") ∷ function f (gives z (value_of x) ∷ []) ∷ simple 1 0 (assignment x (plain (codes "1")) (assignment x (plain (codes "2")) (elements_of (plain f ∷ [])))) ∷ [])
       ≡ just (codes "0") ∷ just (codes "2") ∷ []
-  -- `x="$y" ls`: y is met where it is not set
+  -- `x="$y" ls`: y is met if it is not set
   pub value_meets : meets_unset quiet bare_start (list (before x (value_of y) (plain (codes "ls") ∷ []) ∷ [])) ≡ true
   pub value_meets_nothing : meets_unset quiet (with_variable bare_start y (Some [])) (list (before x (value_of y) (plain (codes "ls") ∷ []) ∷ [])) ≡ false
   -- `x="${y=t}" ls`: y is set, unless the value is expanded in a copy; `x="${y?}" ls` ends the

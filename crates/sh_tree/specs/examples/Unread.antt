@@ -40,7 +40,7 @@ default_backquotes_text = codes "\"${x-`a`}\""
 abbrev pub other_braced_text : List ℕ
 other_braced_text = codes "${x/y}"
 
--- all positional parameters where fields are not split
+-- all positional parameters if fields are not split
 abbrev pub unsplit_text : List ℕ
 unsplit_text = codes "\"${x-$@}\""
 

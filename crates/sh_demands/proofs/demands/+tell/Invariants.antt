@@ -4,7 +4,7 @@ use Rattle.sh_demands.specs.ToldWalks as walks
 use Rattle.sh_demands.specs.Reported.{Adds}
 use Rattle.sh_demands.proofs.demands.+tell.Given as goal
 
--- what is told so far is what is told of the pieces so far
+-- what is reported so far is what is reported of the pieces so far
 
 abbrev pub invariant-tell_items-loop-item : goal.invariant-tell_items-loop-item
 invariant-tell_items-loop-item l = Adds l.initial.reports l.reports (λ ps. fold (walks.item_step (command_places l.source) l.script l.shares) ps (take l.item-index l.items))

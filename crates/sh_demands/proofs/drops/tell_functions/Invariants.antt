@@ -3,6 +3,6 @@ use Rattle.sh_demands.specs.DropWalks as walks
 use Rattle.sh_demands.specs.Reported.{AddsSince}
 use Rattle.sh_demands.proofs.drops.tell_functions.Given as goal
 
--- what is told so far is what is told of the pieces so far
+-- what is reported so far is what is reported of the pieces so far
 abbrev pub invariant-loop-operand : goal.invariant-loop-operand
 invariant-loop-operand l = AddsSince l.start l.initial.reports l.reports (λ k ps. fold (walks.function_step l.script l.calls.functions.names k l.at) ps (take l.operand-index l.operands))

@@ -3,7 +3,7 @@ use Rattle.sh_domain.specs.Sights as spec
 use Rattle.sh_domain.specs.SightWalks.{seen_in}
 use Rattle.sh_domain.proofs.operands.behind_options.Given as goal
 
--- what is behind the options of what is left is what is behind all
+-- what is after the options of what is left is what is after all
 abbrev pub invariant-loop-operands : goal.invariant-loop-operands
 invariant-loop-operands l = spec.behind_options (seen_in l.operands) ≡ spec.behind_options (seen_in l.initial.operands)
 

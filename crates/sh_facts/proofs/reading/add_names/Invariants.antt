@@ -7,7 +7,7 @@ use Rattle.sh_domain.specs.Reading.{are_known}
 use Rattle.sh_facts.proofs.FormLemmas.{room}
 use Rattle.sh_facts.proofs.reading.add_names.Given as goal
 
--- the numbers so far and those of the names that are left are all; what is left is known where all is
+-- the numbers so far and those of the names that are left are all; what is left is known if all is
 abbrev pub invariant-loop-left : goal.invariant-loop-left
 invariant-loop-left l = record {
   numbers : (k : ℕ) → (bits_of l.row k || is_among l.names (pieces_left 44 l.left) k) ≡ (bits_of l.initial.row k || is_among l.names (pieces 44 l.text) k);

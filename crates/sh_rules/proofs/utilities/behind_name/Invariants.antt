@@ -3,7 +3,7 @@ use Rattle.sh_tree.specs.Lists.{elements_from}
 use Rattle.sh_rules.specs.TextBounds as spec
 use Rattle.sh_rules.proofs.utilities.behind_name.Given as goal
 
--- the name stands in what is left
+-- the name is in what is left
 abbrev pub invariant-loop-rest : goal.invariant-loop-rest
 invariant-loop-rest l = (b : List ℕ) → spec.behind_name (elements_from b l.rest) ≡ spec.behind_name (elements_from b l.elements)
 

@@ -42,7 +42,7 @@ pub record Answer : Type 0 where
   pub redirection_fails : Bool
   -- one that fails at a function or a compound command ends the process
   pub redirection_ends : Bool
-  -- one that fails without a command name leaves out what is left of the command
+  -- one that fails without a command name skips what is left of the command
   pub redirection_leaves_out : Bool
   -- the assignment fails, which ends the process
   pub assignment_fails : Bool
@@ -61,7 +61,7 @@ pub record Answer : Type 0 where
   pub removes_function : ℕ → Bool
   -- `set` gives its parameters though it fails
   pub sets_parameters : Bool
-  -- how many parameters `shift` removes where its operand is no number
+  -- how many parameters `shift` removes if its operand is no number
   pub count : ℕ
   -- Choices
 
@@ -80,7 +80,7 @@ pub record Answer : Type 0 where
   pub redirections_in_process : Bool
   -- the value of a prefix assignment before a utility sees the assignments before it
   pub sees : Bool
-  -- `unset` takes a function where there is no variable
+  -- `unset` takes a function if there is no variable
   pub takes_function : Bool
   -- the next pattern of a clause, among those that are left
   pub pattern : ℕ

@@ -97,7 +97,7 @@ special_or_end e f status ws a vs k ts = if a.special_ends then ends e f else sp
 
 -- Other built-in utilities
 
--- a name that gets a value: it may stay as it is where that is allowed
+-- a name that gets a value: it may stay as it is, if `may_stay` says so
 unfoldable pub given_to : Bool → Environment → Text → Option Text → Environment
 given_to may_stay e name (Some t) = with_variable e name (Some t)
 given_to true e name None = e

@@ -140,7 +140,7 @@ module _ (f : Frame) (status : ℕ) where
   value_of (Positional n) e g = slice_get f (n - 1)
   value_of (Special c) e g = special_value c e g
 
-  -- the value of a parameter that has to be set: where it is not, that is an event
+  -- the value of a parameter that has to be set: if it is not, that is an event
   unfoldable pub needed : Context → Option Text → State → Outcome
   needed c (Some v) s = gives (Bytes (value_origin c.plain) v ∷ []) s
   needed c None s = gives (Bytes (value_origin c.plain) [] ∷ []) (met s)

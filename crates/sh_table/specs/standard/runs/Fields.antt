@@ -79,7 +79,7 @@ is_pattern field = list_any (λ m. is_unquoted 42 m || is_unquoted 63 m) field |
 abbrev pub field_text : List Marked → Text
 field_text field = map (λ (m : Marked). m.byte) field
 
--- the names, or the pattern itself where there are none
+-- the names, or the pattern itself if there are none
 unfoldable pub names_or : Text → List Text → List Text
 names_or t [] = t ∷ []
 names_or t (n ∷ ns) = n ∷ ns

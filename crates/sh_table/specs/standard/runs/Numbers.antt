@@ -1,7 +1,6 @@
--- Numbers as texts.
--- POSIX.1-2024, XCU 2.5.2 (special parameters), 2.6.4 (arithmetic expansion). Decimal numerals, and
--- which texts are integer constants. Blanks may be round a value that is computed with, and one of
--- blanks alone is zero.
+-- Numbers as texts: decimal numerals, and which texts are integer constants. Blanks may be round a
+-- value that is computed with, and one of blanks alone is zero.
+-- POSIX.1-2024, XCU 2.5.2 (special parameters), 2.6.4 (arithmetic expansion).
 use Rattle.std.specs.Prelude.{ℕ, zero, suc, ◌+◌, ◌/◌, ◌%◌, ◌==◌, nat_lt, Bool, true, false, not, ◌&&◌, ◌||◌, if◌then◌else◌, [], ◌∷◌, ◌++◌, length, ℤ, pos, negsuc, Option, Some, None}
 use Rattle.std.specs.List.{list_all}
 use Rattle.sh_tree.specs.standard.language.Bytes.{is_digit, is_octal, is_hexadecimal, is_in, decimal}

@@ -127,7 +127,7 @@ module _ (e : Environment) (f : Frame) (status : ℕ) (ws : List Work) (a : Answ
   abbrev pub expanded : Context → p.Word → Outcome
   expanded c w = expand f status c w (fresh e a.given)
 
-  -- the process ends where the expansion does so; otherwise the step goes on
+  -- the process ends if the expansion ends it; otherwise the step goes on
   unfoldable pub unless_ended : State → Effect → Effect
   unless_ended s x = if s.ended then ends s.environment f else x
 

@@ -36,8 +36,8 @@ pub data Work : Type 0 where
   -- a utility, its redirections and prefix assignments that are left, the names of all assignments,
   -- and the values so far
   Utility : (command : Simple) (name : Text) (operands : List Text) (redirects : p.Redirects) (assignments : Assignments) (prefixes : List Text) (values : List (Text × Text)) → Work
-  -- a function by its name, the redirections and prefix assignments that are left, and what the
-  -- names of the other assignments had before, the last one first
+  -- a function by its name; the redirections and prefix assignments that are left; what the names
+  -- of the other assignments had before, the last one first
   Call : (number : ℕ) (function : Text) (operands : List Text) (body : p.Command) (redirects : p.Redirects) (assignments : Assignments) (saved : Saved) → Work
   -- the return mark of a call: the function, and what the names of prefix assignments had before
   Return : (number : ℕ) (function : Text) (saved : Saved) → Work

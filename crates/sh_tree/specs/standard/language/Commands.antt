@@ -285,7 +285,7 @@ is_redirection lead.Number = true
 is_redirection (lead.Operator o) = redirects o
 is_redirection _ = false
 
--- a word can stand here
+-- a word can be here
 abbrev pub is_word : Lead → Bool
 is_word lead.Word = true
 is_word _ = false

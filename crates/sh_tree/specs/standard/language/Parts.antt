@@ -22,7 +22,7 @@ is_quotation _ = false
 unfoldable pub is_quoted_word : Word → Bool
 is_quoted_word w = list_any is_quotation w.parts
 
--- the single quotes in a part, those in the commands of a substitution aside
+-- the single quotes in a part, except for those in the commands of a substitution
 unfoldable mutual
   pub singles_in : Part → List Span
   singles_in (Single style s) = s ∷ []

@@ -257,7 +257,7 @@ abbrev pub is_all : Sign → Bool
 is_all (sign.Value (Special special.At s)) = true
 is_all _ = false
 
--- the sign in this context: `$@` only where fields are split
+-- the sign in this context: `$@` only if fields are split
 abbrev pub sign_in : Context → Sign × ℕ → Sign × ℕ
 sign_in x found = if is_all found.0 && not x.fields then (sign.LeftOut form.AllParameters, 0) else found
 
@@ -325,13 +325,13 @@ single cs = let n = run (λ c. not (c == byte.apostrophe)) cs in if nat_lt n (le
 abbrev pub double : Site → Sign × ℕ
 double s = if is_default_site s then (sign.LeftOut form.QuotedInDefault, 0) else (sign.Double, 1)
 
--- a backquote, before cs: where it ends the text a word ends before it
+-- a backquote, before cs: if it ends the text, a word ends before it
 unfoldable pub backquoted : Context → List ℕ → Sign × ℕ
 backquoted x cs =
     if is_word_site x.site && length cs == 0 then (sign.Stop, 0)
     else (if x.backquotes then (sign.Substitution Backquote, 1) else (sign.LeftOut form.Backquoted, 0))
 
--- what the byte c at i begins, which is not literal
+-- what the byte c at i begins, if it is not literal
 unfoldable pub meant_by : Context → ℕ → ℕ → List ℕ → Sign × ℕ
 meant_by x i c cs =
     if c == byte.backslash then backslash x cs

@@ -135,7 +135,7 @@ mutual
     no_else : Otherwise
     else_of : (body : Items) → Otherwise
 
-  -- the words of `for`, or all positional parameters where there is no `in`
+  -- the words of `for`, or all positional parameters if there is no `in`
   pub data ForWords : Type 0 where
     every_parameter : ForWords
     listed : (words : Words) → ForWords
