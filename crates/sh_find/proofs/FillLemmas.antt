@@ -1,35 +1,32 @@
 -- What is stated as a sheet, and the certificate that it is filled to.
-use Rattle.std.proofs.Common.{◌≡◌, ℕ, zero, suc, ◌+◌, ◌<◌, ◌≤◌, nat_eq, nat_lt, cond, Bool, true, false, ◌&&◌, if◌then◌else◌, Option, Some, None, option_map, is_some, List, [], ◌∷◌, filter, flat_map, length, map, slice_get, unwrap_or, refl, sym, ap, ap₂, ◌∙◌, subst, arith, inl, inr, true≢false}
+use Rattle.std.proofs.Common.{◌≡◌, ℕ, zero, suc, ◌+◌, ◌≤◌, nat_eq, nat_lt, cond, Bool, true, false, ◌&&◌, if◌then◌else◌, Option, Some, None, option_map, is_some, List, [], ◌∷◌, filter, flat_map, length, map, slice_get, unwrap_or, refl, sym, ap, ap₂, ◌∙◌, subst, arith, inl, inr, true≢false}
 use Rattle.std.specs.Prelude.{option_and_then}
 use Rattle.std.specs.List.{list_all}
 use Rattle.std.specs.Map.{lookup}
-use Rattle.std.proofs.lemmas.Bool.{and_parts, and_from, cases_Bool, cases_lt, eqb-true, le-ltb, lt-ltb}
+use Rattle.std.proofs.lemmas.Bool.{and_parts, cases_Bool, cases_lt, eqb-true, le-ltb, lt-ltb}
 use Rattle.std.proofs.lemmas.List.{length-map}
 use Rattle.std.proofs.lemmas.List.Elements.{filter_agree}
-use Rattle.std.proofs.lemmas.Option.{slice_get_past}
 use Rattle.indexmap.specs.IndexMap.{get}
 use Rattle.sh_rows.specs.declared.bits.BitRow.{BitRow}
-use Rattle.sh_tree.specs.declared.tree.Script.{Script}
 use Rattle.sh_tree.specs.standard.language.Bytes.{is_name}
 use Rattle.sh_tree.specs.standard.program.Syntax.{Text}
 use Rattle.sh_tree.specs.standard.program.Trees.{script_of}
-use Rattle.sh_table.specs.standard.runs.Environment.{is_one_of}
 use Rattle.sh_domain.specs.Filled.{FillsTo, IsFilled, bounds_filled, is_stated}
 use Rattle.sh_domain.specs.declared.certificate.Certificate as kept
 use Rattle.sh_domain.specs.declared.certificate.Facts as value
 use Rattle.sh_domain.specs.declared.certificate.FunctionEntry.{FunctionEntry}
 use Rattle.sh_domain.specs.Admitted.{IsAdmitted, claims_in, functions_in}
 use Rattle.sh_domain.specs.Certificates.{claim_of, function_claims, in_byte_order}
-use Rattle.sh_domain.specs.Facts.{Claim, Unreached, Claimed, facts}
+use Rattle.sh_domain.specs.Facts.{Claim, Unreached, facts}
 use Rattle.sh_domain.specs.Forms.{is_variable, is_rising}
 use Rattle.sh_domain.specs.Knowledge.{AreNumbered, at_number}
 use Rattle.sh_domain.specs.Faults.{broken}
 use Rattle.sh_domain.specs.Names.{are_distinct, number_of}
-use Rattle.sh_domain.specs.Operands.{Names, no_names}
+use Rattle.sh_domain.specs.Operands.{Names}
 use Rattle.sh_domain.specs.Order.{AreAmong, IsBelow, IsWithin}
 use Rattle.sh_domain.specs.Reading.{AreLoops, commands_fit, command_fits, fits, function_fits, head_fits, claim_fits}
 use Rattle.sh_domain.specs.Rules.{Constraint, Within, Counted, script_bounds}
-use Rattle.sh_domain.specs.Sheets.{CommandClaims, FunctionClaims, Sheet, certificate_of, claim_at, function_at, nowhere, uncalled}
+use Rattle.sh_domain.specs.Sheets.{CommandClaims, FunctionClaims, Sheet, certificate_of, nowhere, uncalled}
 use Rattle.sh_domain.specs.Spelling.{IsSheet, are_writable, is_command, is_function, is_writable, is_writable_head}
 use Rattle.sh_domain.specs.Views.{Certificate, Slot}
 use Rattle.sh_domain.proofs.KnowledgeLemmas.{row_names}
@@ -50,7 +47,7 @@ use Rattle.sh_find.specs.declared.subject.Subject.{Subject}
 use Rattle.sh_find.specs.Starts.{start_of}
 use Rattle.sh_find.specs.Stated.{Claims, ClaimsStated, asked_bounds, is_asked, is_free}
 use Rattle.sh_find.specs.Sweeps.{IsOver, IsSettled, Keeps}
-use Rattle.sh_find.specs.Turns.{StatedStays, sheet_by}
+use Rattle.sh_find.specs.Turns.{sheet_by}
 use Rattle.sh_find.specs.Working.{IsWorking, Sets, claims, dropped, names_of, sets_of}
 use Rattle.sh_find.specs.Writable.{IsWritten}
 use Rattle.sh_find.proofs.GreatestLemmas.{numbered}

@@ -1,5 +1,5 @@
 -- What is required if claims are stated.
-use Rattle.std.proofs.Common.{◌≡◌, ℕ, cond, Bool, true, false, not, if◌then◌else◌, List, [], ◌∷◌, ◌++◌, filter, fold, refl, sym, ap, ◌∙◌, subst, true≢false}
+use Rattle.std.proofs.Common.{◌≡◌, ℕ, cond, Bool, true, false, not, if◌then◌else◌, List, [], ◌∷◌, filter, fold, refl, sym, ap, ◌∙◌, true≢false}
 use Rattle.std.specs.List.{list_all}
 use Rattle.std.proofs.lemmas.Bool.{and_parts}
 use Rattle.std.proofs.lemmas.List.Elements.{filter-append}

@@ -1,5 +1,5 @@
 -- Turns of the search.
-use Rattle.std.proofs.Common.{◌≡◌, ℕ, ◌-◌, ◌<◌, Bool, true, false, not, cond, ◌||◌, if◌then◌else◌, Option, Some, None, option_map, is_some, List, [], ◌∷◌, filter, length, flat_map, refl, sym, ap, ◌∙◌, subst, arith, inl, inr, true≢false}
+use Rattle.std.proofs.Common.{◌≡◌, ℕ, ◌-◌, ◌<◌, Bool, true, false, ◌||◌, if◌then◌else◌, Option, Some, None, option_map, is_some, List, [], ◌∷◌, length, flat_map, refl, sym, ap, ◌∙◌, subst, arith, inl, inr, true≢false}
 use Rattle.std.proofs.lemmas.Bool.{cases_Bool}
 use Rattle.sh_tree.specs.standard.program.Syntax.{Text}
 use Rattle.sh_domain.specs.Filled.{is_stated}

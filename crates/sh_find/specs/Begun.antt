@@ -1,6 +1,6 @@
 -- The certificate that claims what is stated, and everything elsewhere.
 -- The standard has no such thing: no run comes to any place of which nothing is stated.
-use Rattle.std.specs.Prelude.{◌≡◌, ℕ, ◌+◌, ◌≤◌, ◌<◌, ◌==◌, nat_eq, nat_lt, Bool, true, false, ◌&&◌, ◌||◌, if◌then◌else◌, Option, Some, None, is_some, option_map, option_and_then, slice_get, List}
+use Rattle.std.specs.Prelude.{◌≡◌, ℕ, ◌+◌, ◌≤◌, ◌<◌, nat_eq, nat_lt, Bool, true, false, ◌&&◌, if◌then◌else◌, Option, Some, None, is_some, option_map, option_and_then, slice_get, List}
 use Rattle.indexmap.specs.IndexMap.{get}
 use Rattle.sh_tree.specs.standard.program.Syntax.{Text}
 use Rattle.sh_domain.specs.declared.certificate.Certificate.{Certificate}
@@ -10,7 +10,7 @@ use Rattle.sh_domain.specs.declared.compact.Compact.{Compact}
 use Rattle.sh_find.specs.declared.place.Place.{Place}
 use Rattle.sh_find.specs.Facts.{Facts, NotReached}
 use Rattle.sh_find.specs.Kept.{fact_of}
-use Rattle.sh_find.specs.Places.{function_part, is_of_command, is_of_function, is_stated_part, same}
+use Rattle.sh_find.specs.Places.{function_part, is_of_command, is_of_function, is_stated_part}
 use Rattle.sh_find.specs.Working.{Sets, claims, dropped, names_of, sets_of}
 use Rattle.sh_find.specs.Writable.{IsWritten}
 

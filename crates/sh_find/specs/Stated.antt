@@ -1,7 +1,7 @@
 -- What is required if a compact certificate states what is claimed at each turn of a loop and round
 -- a function.
 -- The standard has no such rules: what is claimed of a place has to be known there in every run.
-use Rattle.std.specs.Prelude.{◌≡◌, ℕ, Bool, true, false, not, if◌then◌else◌, List, filter}
+use Rattle.std.specs.Prelude.{◌≡◌, Bool, true, false, not, if◌then◌else◌, List, filter}
 use Rattle.std.proofs.Common.{refl}
 use Rattle.sh_tree.specs.standard.program.Syntax.{Text}
 use Rattle.sh_domain.specs.Certificates.{in_byte_order}

@@ -1,4 +1,4 @@
-use Rattle.std.proofs.Common.{◌≡◌, ◌∙◌, ap, subst, sym, true≢false}
+use Rattle.std.proofs.Common.{◌∙◌, sym, true≢false}
 use Rattle.sh_domain.proofs.RowLemmas.{no_bits}
 use Rattle.sh_find.proofs.BegunLemmas.{row_below, row_same}
 use Rattle.sh_find.proofs.begun.numbers_in.Goals as goal
