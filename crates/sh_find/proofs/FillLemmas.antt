@@ -44,7 +44,7 @@ use Rattle.sh_domain.specs.Compacts.{compact_claims, stated_by, stated_commands,
 use Rattle.sh_find.specs.Facts as number
 use Rattle.sh_find.specs.Gathered.{is_at}
 use Rattle.sh_find.specs.Kept.{fact_of}
-use Rattle.sh_find.specs.Numbers.{claim_by, named, names_by}
+use Rattle.sh_find.specs.Numbers.{by_name, claim_by, named, names_by}
 use Rattle.sh_find.specs.Places.{at, claim_there, drops_there, function_part, is_of_command, is_of_function, is_stated_part, kept_at, part_claim, place_of}
 use Rattle.sh_find.specs.declared.subject.Subject.{Subject}
 use Rattle.sh_find.specs.Starts.{start_of}
@@ -156,7 +156,7 @@ module _ (names : List Text) (h : AreNumbered names) (functions : List Text) (lo
 
   -- each one that does so is below the one that claims everything elsewhere
   pub begun_above : IsBegun k c → (other : Sheet) → Claims stated (certificate_of functions other) → IsBelow (certificate_of functions other) own
-  unfolding named claim_there facts
+  unfolding named claim_there facts by_name
   begun_above b other is = record {
     claimed = λ slot. elim (cases_Bool (is_stated slot)) [
       | inl e ↦ subst (λ (x : Claim). IsWithin (facts x) (facts (own.claim slot))) (sym (is.claims slot e ∙ sym (mine.claims slot e))) (within_itself _)

@@ -30,6 +30,7 @@ use Rattle.sh_rules.specs.Walks as walks
 use Rattle.sh_rules.specs.Walks.{behind_in, facts_in, item_left, setting}
 use Rattle.sh_rules.proofs.LedLemmas.{Follows, item_stands, next_stands, pipeline_stands, started_led}
 use Rattle.sh_find.specs.declared.subject.Subject.{Subject}
+use Rattle.sh_find.specs.Stated.{asking_by}
 use Rattle.sh_find.specs.Sweeps.{ArePassed, IsOver, IsPassed, Knows, KnowsBehind, known_behind, setting_by}
 use Rattle.sh_find.proofs.SweepLemmas.{behind_of, knows_follow, stands_of}
 
@@ -42,9 +43,12 @@ module _ (s : Subject) (c : kept.Certificate) (z : Claims) (same : setting z ≡
   pub behind_by : (F : Setting → Behind) (o : code.Behind) → behind_in (setting z) o ≡ F (setting z) → behind_in (setting_by s c) o ≡ F (setting_by s c)
   behind_by F o is = subst (λ x. behind_in x o ≡ F x) same is
 
-  pub met_by : {K : Type 0} (a : Asking K) (by : FlowRule) (y : Around) (k : Knowledge) (m : Command) (old new : K) → new ≡ command_by a (setting z) old (met_in (setting z) by y k m)
-      → new ≡ command_by a (setting_by s c) old (met_in (setting_by s c) by y k m)
-  met_by a by y k m old new is = subst (λ x. new ≡ command_by a x old (met_in x by y k m)) same is
+  pub told_by : {K : Type 0} (a : Asking K) (by : FlowRule) (y : Around) (k : Knowledge) (m : Command) (old new : K) (stated : Bool) → s.stated ≡ stated
+      → new ≡ command_by (asking_by stated a) (setting z) old (met_in (setting z) by y k m)
+      → new ≡ command_by (asking_by s.stated a) (setting_by s c) old (met_in (setting_by s c) by y k m)
+  told_by a by y k m old new stated is told =
+      subst (λ b. new ≡ command_by (asking_by b a) (setting_by s c) old (met_in (setting_by s c) by y k m)) (sym is)
+      (subst (λ x. new ≡ command_by (asking_by stated a) x old (met_in x by y k m)) same told)
 
 -- What is known
 

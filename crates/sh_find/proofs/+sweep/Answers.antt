@@ -217,6 +217,18 @@ sweep::sweep_loop-sweep_list-requires t c =
     (body_placed s y c.args.number w.0 turn c.args.kind (script_of s.script.now c.args.condition.now) (script_of s.script.now c.args.body.now) w.1 known) in
     search std_rules
 
+pub sweep::sweep_and_or-returns : goal.sweep::sweep_and_or-returns
+sweep::sweep_and_or-returns t c = record { swept = if_ok c.sweep_links.result _ _ (λ u h. swept_more c.args.subject.now _ _ _ _ _ c.in_ok-sweep_pipe.ensures.swept h) c.sweep_links.ensures.swept }
+
+pub sweep::sweep_inside-returns : goal.sweep::sweep_inside-returns
+sweep::sweep_inside-returns t c = record { swept = if_ok c.sweep_kind.result _ _ (λ u h. swept_more c.args.subject.now _ _ _ _ _ c.in_ok-sweep_redirections.ensures.swept h) c.sweep_kind.ensures.swept }
+
+pub sweep::sweep_looked-returns-then-is_simple-2 : goal.sweep::sweep_looked-returns-then-is_simple-2
+sweep::sweep_looked-returns-then-is_simple-2 t c = record { swept = if_ok c.sweep_simple.result _ _ (λ u h. swept_more c.args.subject.now _ _ _ _ _ c.in_ok-lower_before.ensures.swept h) c.sweep_simple.ensures.swept }
+
+pub sweep::sweep_looked-returns-else-is_simple-2 : goal.sweep::sweep_looked-returns-else-is_simple-2
+sweep::sweep_looked-returns-else-is_simple-2 t c = record { swept = if_ok c.sweep_compound.result _ _ (λ u h. swept_more c.args.subject.now _ _ _ _ _ c.in_ok-lower_before.ensures.swept h) c.sweep_compound.ensures.swept }
+
 pub sweep::sweep_loop-returns : goal.sweep::sweep_loop-returns
 sweep::sweep_loop-returns t c = record { swept = swept_more c.args.subject.now _ _ _ _ _ c.in_ok-sweep_items.ensures.swept c.in_ok-sweep_list.ensures.swept }
 
@@ -630,6 +642,9 @@ words::pass_expression-returns-then-levels-eq0-clause-gained = words.pass_expres
 
 pub choices::sweep_clause-returns-clause-swept : goal.choices::sweep_clause-returns-clause-swept
 choices::sweep_clause-returns-clause-swept = choices.sweep_clause-returns-clause-swept
+
+pub choices::sweep_cond-returns-in-Some : goal.choices::sweep_cond-returns-in-Some
+choices::sweep_cond-returns-in-Some = choices.sweep_cond-returns-in-Some
 
 pub sweep::sweep_items-sweep_or_pass-requires : goal.sweep::sweep_items-sweep_or_pass-requires
 sweep::sweep_items-sweep_or_pass-requires t c =

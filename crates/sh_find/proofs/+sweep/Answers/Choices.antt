@@ -178,3 +178,6 @@ sweep_clause-sweep_patterns-requires t c =
 
 pub sweep_clause-returns-clause-swept : goal.choices::sweep_clause-returns-clause-swept
 sweep_clause-returns-clause-swept t c = if_ok c.sweep_body.result _ _ (λ u h. swept_more c.args.subject.now _ _ _ _ _ c.in_ok-sweep_patterns.ensures.swept h) c.sweep_body.ensures.swept
+
+pub sweep_cond-returns-in-Some : goal.choices::sweep_cond-returns-in-Some
+sweep_cond-returns-in-Some t c = record { swept = if_ok c.sweep_list.result _ _ (λ u h. swept_more c.args.subject.now _ _ _ _ _ c.in_ok-sweep_branches.ensures.swept h) c.sweep_list.ensures.swept }

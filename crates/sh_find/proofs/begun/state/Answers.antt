@@ -5,8 +5,6 @@ use Rattle.sh_find.specs.Kept.{fact_of, IsNamed}
 use Rattle.sh_find.specs.Working.{IsLowered}
 use Rattle.sh_find.specs.Writable.{sets_in}
 use Rattle.sh_find.proofs.BegunLemmas.{begun_more, begun_none, stated_within}
-use Rattle.sh_find.proofs.FillLemmas.{is_filled}
-use Rattle.sh_find.proofs.StayLemmas.{idle_whole}
 use Rattle.sh_find.proofs.GreatestLemmas.{numbered}
 use Rattle.sh_find.proofs.begun.state.Goals as goal
 
@@ -27,8 +25,8 @@ returns-clause-begun c = λ done first away b.
     let may = sets_in s.writable.now.vars s.writable.now.functions in
     let is : states k c.args.place ≡ Some known = ap (option_map (fact_of k.rows.rows)) (sym c.stated_at.ensures ∙ c.in-Some.is) in
     let h = numbered s.script.now s.policy.now s.tree.now s.names.now c.requires.admitted in
-    begun_more k done first old new c.args.place known may c.in_ok-lower_known.lower_known c.requires.stated away is
-    (subst (λ f. IsLowered old new c.args.place f c.in_ok-lower_known.lower_known) c.sight_by-known.ensures.seen (c.in_ok-lower_known.ensures.lowered w.0 w.1 w.2))
+    begun_more k done first old new c.args.place known may c.in_ok-lower_known.field-0 c.requires.stated away is
+    (subst (λ f. IsLowered old new c.args.place f c.in_ok-lower_known.field-0) c.sight_by-known.ensures.seen (c.in_ok-lower_known.ensures.lowered w.0 w.1 w.2))
     (λ e. subst (λ f. ClaimStays old c.args.place f may) c.sight_by-known.ensures.seen (c.in_ok-lower_known.ensures.idle e))
     (stated_within s.names.now h k c.args.place known may c.requires.stateable is (subst (λ f. IsNamed k.rows.count f) c.sight_by-known.ensures.seen c.sight_by-known.ensures.named) c.requires.sized s.all_writable)
     b

@@ -1,7 +1,20 @@
-use Rattle.std.proofs.Common.{◌+◌}
+use Rattle.std.proofs.Common.{◌+◌, refl}
 use Rattle.sh_find.specs.Begun.{functions_below}
+use Rattle.sh_find.specs.Places.{is_stated_part}
 use Rattle.sh_find.proofs.BegunLemmas.{begun_so, entered_left, entered_too, functions_next, nonzero_left, zero_left, zero_too}
 use Rattle.sh_find.proofs.begun.state_function.Goals as goal
+
+pub state-requires-clause-stated : goal.state-requires-clause-stated
+unfolding is_stated_part
+state-requires-clause-stated c = refl
+
+pub state-requires-2-clause-stated : goal.state-requires-2-clause-stated
+unfolding is_stated_part
+state-requires-2-clause-stated c = refl
+
+pub state-requires-3-clause-stated : goal.state-requires-3-clause-stated
+unfolding is_stated_part
+state-requires-3-clause-stated c = refl
 
 pub state-requires-2-clause-working : goal.state-requires-2-clause-working
 state-requires-2-clause-working c = let w = c.requires.working in (w.0, w.1, c.in_ok-state.ensures.working w.0 w.1 w.2)

@@ -1,3 +1,5 @@
+use Rattle.std.proofs.Common.{◌≡◌, subst, arith}
+use Rattle.sh_find.specs.Begun.{IsBegunAt, functions_below}
 use Rattle.sh_find.proofs.begun.state_functions.Goals as goal
 
 pub state_function-requires-clause-working : goal.state_function-requires-clause-working
@@ -9,3 +11,9 @@ loop-index-preserved c = record {
   working = λ loops m w. c.in_ok-state_function.ensures.working loops m (c.loop-index.invariant.working loops m w);
   probed = c.in_ok-state_function.ensures.probed;
 }
+
+pub returns-clause-begun : goal.returns-clause-begun
+returns-clause-begun c =
+    let k = c.args.subject.now.compact.now in
+    let all : c.loop-index.index ≡ c.args.functions = omega (arith, c.loop-index.auto.index-end, c.loop-index-test.false) in
+    subst (λ n. IsBegunAt k (functions_below n) n c.loop-index.certificate) all c.loop-index.invariant.begun

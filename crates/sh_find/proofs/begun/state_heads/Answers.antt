@@ -1,10 +1,15 @@
-use Rattle.std.proofs.Common.{◌+◌}
+use Rattle.std.proofs.Common.{◌+◌, refl}
 use Rattle.sh_find.specs.Begun.{heads_below}
+use Rattle.sh_find.specs.Places.{is_stated_part}
 use Rattle.sh_find.proofs.BegunLemmas.{begun_so, head_left, heads_next}
 use Rattle.sh_find.proofs.begun.state_heads.Goals as goal
 
 pub state-requires-clause-working : goal.state-requires-clause-working
 state-requires-clause-working c = let w = c.requires.working in (w.0, w.1, c.loop-index.invariant.working w.0 w.1 w.2)
+
+pub state-requires-clause-stated : goal.state-requires-clause-stated
+unfolding is_stated_part
+state-requires-clause-stated c = refl
 
 pub loop-index-preserved : goal.loop-index-preserved
 loop-index-preserved c =

@@ -13,6 +13,12 @@ use Rattle.sh_find.proofs.FillLemmas.{begun_over, counts, has_stated, is_filled,
 use Rattle.sh_find.proofs.GreatestLemmas.{few_commands, numbered}
 use Rattle.sh_find.proofs.filling.filled.Goals as goal
 
+pub overflow_cast-commands : goal.overflow_cast-commands
+overflow_cast-commands c =
+    let s = c.args.subject.now in
+    let few = few_commands s.script.now s.policy.now s.tree.now s.names.now c.requires.admitted s.commands.now c.requires.commands in
+    omega (arith, few)
+
 pub begun-requires-clause-stateable : goal.begun-requires-clause-stateable
 begun-requires-clause-stateable c =
     let s = c.args.subject.now in
@@ -23,8 +29,8 @@ begun-requires-clause-has c = λ first w.
     let s = c.args.subject.now in
     let are : AreLoops s.tree.now (loops_of s.commands.now) = record { commands = s.commands.now; all = c.requires.commands; ordered = c.requires.ordered; each = refl } in
     let all = counts s.names.now (loops_of s.commands.now) (length (functions_in s.script.now s.tree.now)) s.compact.now (c.requires.fits (loops_of s.commands.now) are) in
-    let same : length c.functions-functions.result.now ≡ length (functions_in s.script.now s.tree.now) =
-    sym (length-map c.functions-functions.result.now _) ∙ ap length c.functions-functions.ensures.names ∙ ap (λ (x : Table). length x.functions.names) s.listed in
+    let same : length c.functions.result.now ≡ length (functions_in s.script.now s.tree.now) =
+    sym (length-map c.functions.result.now _) ∙ ap length c.functions.ensures.names ∙ ap (λ (x : Table). length x.functions.names) s.listed in
     has_stated s.names.now (loops_of s.commands.now) _ s.compact.now first w all.heads (all.functions ∙ sym same)
 
 pub begun-requires-clause-counted : goal.begun-requires-clause-counted
@@ -39,8 +45,8 @@ begun-requires-clause-functions c =
     let s = c.args.subject.now in
     let are : AreLoops s.tree.now (loops_of s.commands.now) = record { commands = s.commands.now; all = c.requires.commands; ordered = c.requires.ordered; each = refl } in
     let all = counts s.names.now (loops_of s.commands.now) (length (functions_in s.script.now s.tree.now)) s.compact.now (c.requires.fits (loops_of s.commands.now) are) in
-    let same : length c.functions-functions.result.now ≡ length (functions_in s.script.now s.tree.now) =
-    sym (length-map c.functions-functions.result.now _) ∙ ap length c.functions-functions.ensures.names ∙ ap (λ (x : Table). length x.functions.names) s.listed in
+    let same : length c.functions.result.now ≡ length (functions_in s.script.now s.tree.now) =
+    sym (length-map c.functions.result.now _) ∙ ap length c.functions.ensures.names ∙ ap (λ (x : Table). length x.functions.names) s.listed in
     all.functions ∙ sym same
 
 pub settle-requires-clause-ready : goal.settle-requires-clause-ready
@@ -59,9 +65,9 @@ settle-requires-clause-ready c =
 pub settle-requires-clause-working : goal.settle-requires-clause-working
 settle-requires-clause-working c =
     let s = c.args.subject.now in
-    let m : ℕ = length c.functions-functions.result.now in
+    let m : ℕ = length c.functions.result.now in
     let same : m ≡ length (functions_in s.script.now s.tree.now) =
-    sym (length-map c.functions-functions.result.now _) ∙ ap length c.functions-functions.ensures.names ∙ ap (λ (x : Table). length x.functions.names) s.listed in
+    sym (length-map c.functions.result.now _) ∙ ap length c.functions.ensures.names ∙ ap (λ (x : Table). length x.functions.names) s.listed in
     record {
       loops = loops_of s.commands.now;
       are_loops = record { commands = s.commands.now; all = c.requires.commands; ordered = c.requires.ordered; each = refl };
@@ -78,15 +84,15 @@ settle-requires-clause-variables c =
 pub returns-clause-filled : goal.returns-clause-filled
 returns-clause-filled c =
     let s = c.args.subject.now in
-    let m : ℕ = length c.functions-functions.result.now in
+    let m : ℕ = length c.functions.result.now in
     let same : m ≡ length (functions_in s.script.now s.tree.now) =
-    sym (length-map c.functions-functions.result.now _) ∙ ap length c.functions-functions.ensures.names ∙ ap (λ (x : Table). length x.functions.names) s.listed in
+    sym (length-map c.functions.result.now _) ∙ ap length c.functions.ensures.names ∙ ap (λ (x : Table). length x.functions.names) s.listed in
     let loops = loops_of s.commands.now in
     let are : AreLoops s.tree.now loops = record { commands = s.commands.now; all = c.requires.commands; ordered = c.requires.ordered; each = refl } in
     let long : length loops ≡ length s.commands.now = length-map s.commands.now _ in
     let few = few_commands s.script.now s.policy.now s.tree.now s.names.now c.requires.admitted s.commands.now c.requires.commands in
     is_filled s c.requires.admitted c.requires.stated loops are m same c.in_ok-certificate.certificate c.settle.new.draft.certificate c.in_ok-certificate.ensures.begun
-    (c.in_ok-settle.ensures loops m c.in_ok-certificate.ensures.working) c.count-count.ensures.distinct (omega (arith, long, few)) (omega (arith, c.functions-functions.ensures.few))
+    (c.in_ok-settle.ensures loops m c.in_ok-certificate.ensures.working) c.count-count.ensures.distinct (omega (arith, long, few)) (omega (arith, c.functions.ensures.few))
 
 pub returns-clause-sized : goal.returns-clause-sized
 returns-clause-sized c = (c.in_ok-settle.ensures _ _ c.in_ok-certificate.ensures.working).working.count

@@ -1,5 +1,12 @@
-use Rattle.sh_find.proofs.KnownLemmas.{met_by}
+use Rattle.std.proofs.Common.{true, false}
+use Rattle.sh_find.specs.Stated.{asking_by}
+use Rattle.sh_find.proofs.KnownLemmas.{told_by}
 use Rattle.sh_find.proofs.own.tell.Goals as goal
 
+pub returns-then-subject : goal.returns-then-subject
+unfolding asking_by
+returns-then-subject g c = told_by c.args.subject.now c.args.certificate.now _ c.claims-claims.ensures g.A.Asked.asked c.args.by c.args.around.now c.args.known.now c.args.command.now _ _ true c.if-subject.true c.tell_command.ensures
+
 pub returns : goal.returns
-returns g c = met_by c.args.subject.now c.args.certificate.now _ c.claims-claims.ensures g.A.Asked.asked c.args.by c.args.around.now c.args.known.now c.args.command.now _ _ c.tell_command.ensures
+unfolding asking_by
+returns g c = told_by c.args.subject.now c.args.certificate.now _ c.claims-claims.ensures g.A.Asked.asked c.args.by c.args.around.now c.args.known.now c.args.command.now _ _ false c.if-subject.false c.tell_command-2.ensures

@@ -32,5 +32,5 @@ turns-preserved c = record {
 pub returns : goal.returns
 returns c = λ loops m working. settled c.args.subject.now loops m c.args.draft.now.certificate c.turns.draft.certificate _ c.turns.kept c.turns-test.false c.turns.invariant.turned working
 
-pub turns-start : goal.turns-start
-turns-start c = record { turned = turned_none c.args.subject.now c.args.draft.now.certificate _ c.requires.ready }
+pub turns-init : goal.turns-init
+turns-init c = record { turned = turned_none c.args.subject.now c.args.draft.now.certificate _ c.requires.ready }
