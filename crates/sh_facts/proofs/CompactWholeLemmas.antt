@@ -135,7 +135,7 @@ module _ (t : Text) (names : List Text) (loops : List Bool) (functions : ℕ) (f
     last_false : (a b c : Bool) → (a && b && c && false) ≡ false
     last_false a b c = and_false (a && b && c)
 
-    pub other_commands : nat_eq x.commands (length loops) ≡ false → IsOtherCompact t names loops functions
+    other_commands : nat_eq x.commands (length loops) ≡ false → IsOtherCompact t names loops functions
     other_commands h = misfits false _ _ _ (ap (λ k. nat_eq k (length loops)) p.commands ∙ h) refl refl refl refl
 
     pub no_start : claim_fits names st ≡ false → IsOtherCompact t names loops functions
@@ -165,8 +165,15 @@ module _ (t : Text) (names : List Text) (loops : List Bool) (functions : ℕ) (f
         misfits (nat_eq sheet.0.commands (length loops)) (claim_fits names sheet.0.start) (turns_fit names (loop_numbers 1 loops) sheet.0.heads) false refl refl refl h
         (last_false (nat_eq sheet.0.commands (length loops)) (claim_fits names sheet.0.start) (turns_fit names (loop_numbers 1 loops) sheet.0.heads))
 
-    pub other_functions : nat_eq x.functions functions ≡ false → IsOtherCompact t names loops functions
+    other_functions : nat_eq x.functions functions ≡ false → IsOtherCompact t names loops functions
     other_functions h = no_functions_fit (ap (λ b. b && list_all (function_fits names) sheet.0.functions) (ap (λ k. nat_eq k functions) functions_long ∙ h))
+
+    pub other_counts : (nat_eq x.commands (length loops) && nat_eq x.functions functions) ≡ false → IsOtherCompact t names loops functions
+    other_counts = go (nat_eq x.commands (length loops)) refl
+      where
+        go : (b : Bool) → nat_eq x.commands (length loops) ≡ b → (b && nat_eq x.functions functions) ≡ false → IsOtherCompact t names loops functions
+        go false e h = other_commands e
+        go true e h = other_functions h
 
     module _ (all : x.loops ≡ length (loop_numbers 1 loops)) where
       pub no_turns : NoTurnsFit names (loop_numbers 1 loops) w → IsOtherCompact t names loops functions

@@ -1,5 +1,5 @@
 //! The form of a line of a compact certificate, if it differs from that of a full one.
-ghost use Rattle.std.specs.Prelude.{◌≡◌, ◌&&◌, option_map, codes};
+ghost use Rattle.std.specs.Prelude.{◌≡◌, ◌&&◌, nat_eq, option_map, codes};
 ghost use Rattle.std.specs.Str.{bytes_eq};
 ghost use Rattle.sh_domain.specs.CompactForms as compact;
 ghost use Rattle.sh_domain.specs.Forms as form;
@@ -15,6 +15,15 @@ pub struct CompactCounts {
     pub commands: u16,
     pub functions: u16,
     pub loops: u16,
+}
+
+impl CompactCounts {
+    /// Whether so many commands and functions are counted.
+    pub fn has(self, commands: usize, functions: usize) -> bool
+        ensures { result ≡ (nat_eq self.commands commands && nat_eq self.functions functions) }
+    {
+        self.commands as usize == commands && self.functions as usize == functions
+    }
 }
 
 /// The command's number and the facts of a loop's line.

@@ -86,10 +86,7 @@ fn read_lines(
     let Ok((start, left)) = behind_start(left) else {
         return Err(Refusal::CertShape);
     };
-    if counts.commands as usize != commands.len() {
-        return Err(Refusal::CertShape);
-    }
-    if counts.functions as usize != functions {
+    if !counts.has(commands.len(), functions) {
         return Err(Refusal::CertShape);
     }
     let numbers = loop_numbers(alloc, commands)?;

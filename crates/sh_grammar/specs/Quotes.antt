@@ -1,19 +1,12 @@
 -- Clauses of private functions: single quotes in bodies whose lines are joined.
 -- POSIX.1-2024, XCU 2.2.1 (line continuation), 2.7.4 (here-document).
-use Rattle.std.specs.Prelude.{◌≡◌, ◌<◌, ℕ, Bool, true, false, not, List, [], ◌∷◌, ◌++◌, length, Option, Some, None}
+use Rattle.std.specs.Prelude.{◌≡◌, ◌<◌, ℕ, Bool, true, false, not, List, length, Option, Some, None}
 use Rattle.std.specs.List.{list_all}
 use Rattle.sh_tree.specs.standard.Tree.{text_of}
-use Rattle.sh_tree.specs.declared.tree.Binary.{Binary}
-use Rattle.sh_tree.specs.declared.tree.Expr.{Expr}
 use Rattle.sh_tree.specs.declared.tree.Part.{Part}
 use Rattle.sh_tree.specs.declared.tree.Span.{Span}
 use Rattle.sh_tree.specs.standard.language.HereDocuments.{is_split_text}
-use Rattle.sh_tree.specs.standard.language.Parts.{expression_singles, keeps_lines}
-
--- the single quotes in the operands of a chain
-unfoldable pub chained : List (Binary × Expr) → List Span
-chained [] = []
-chained (x ∷ xs) = expression_singles x.1 ++ chained xs
+use Rattle.sh_tree.specs.standard.language.Parts.{keeps_lines}
 
 abbrev pub all_kept : List ℕ → List Span → Bool
 all_kept b ss = list_all (λ s. not (is_split_text (text_of b s))) ss

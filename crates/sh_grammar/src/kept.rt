@@ -1,7 +1,8 @@
 //! Line continuations and tabs in the bodies of here-documents. There shells read a text in two
 //! ways (XCU 2.7.4).
 ghost use Rattle.std.specs.Prelude.{◌≡◌, ◌≤◌, ◌<◌, ◌+◌, ◌||◌, ◌&&◌, ◌∷◌, [], not, true, drop, length, ℕ, IfSome};
-ghost use Rattle.sh_grammar.specs.Quotes.{Splits, SplitsIn, chained};
+ghost use Rattle.sh_bodies.specs.Singles.{chained};
+ghost use Rattle.sh_grammar.specs.Quotes.{Splits, SplitsIn};
 ghost use Rattle.sh_grammar.specs.Lines as lines;
 ghost use Rattle.sh_tree.specs.standard.language.Bytes.{is_first, is_tab};
 ghost use Rattle.sh_tree.specs.standard.language.HereDocuments as documents;

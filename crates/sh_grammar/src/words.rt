@@ -60,13 +60,8 @@ impl<F: Fn(Global, &[u8], Cursor) -> Result<(Script, Cursor), Refusal>> Grammar<
         requires nests { Nests self.now.left (F.pre self.now.nested) (F.post self.now.nested) }
         ensures { Builds script.now mode at from result }
     {
-        let mut builder = WordBuilder::start(
-            self.alloc,
-            mode,
-            from.depth(),
-            at,
-            from.get().ticks.quoted(),
-        )?;
+        let quoted = from.get().ticks.quoted();
+        let mut builder = WordBuilder::start(self.alloc, mode, from.depth(), at, quoted)?;
         let mut last = from;
         loop {
             match builder.run(script)? {
@@ -77,14 +72,8 @@ impl<F: Fn(Global, &[u8], Cursor) -> Result<(Script, Cursor), Refusal>> Grammar<
                     style,
                     quoted,
                 } => {
-                    let (commands, end) = self.commands_at(
-                        script,
-                        style,
-                        quoted,
-                        at,
-                        depth,
-                        last.get(),
-                    )?;
+                    let here = last.get();
+                    let (commands, end) = self.commands_at(script, style, quoted, at, depth, here)?;
                     builder.resume(commands, end.at() + 1)?;
                     last = last.counting(end.count());
                 }

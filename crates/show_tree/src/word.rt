@@ -1,9 +1,7 @@
 //! One word, from its begin to its end. Commands in it are not read: each substitution goes up to
 //! its first `)` or backquote.
 ghost use Rattle.std.specs.Prelude.{◌≡◌, ◌≤◌, true, length, IfOk};
-ghost use Rattle.sh_words.specs.Builders.{Goes, mode_of, position};
-ghost use Rattle.sh_words.specs.Modes.{seen};
-ghost use Rattle.sh_words.specs.Sound.{IsSound};
+ghost use Rattle.show_tree.specs.Words.{Continues};
 
 use sh_show::push_word;
 use sh_tree::{CommandStyle, Items, MAX_NESTING, MAX_SCRIPT, Script};
@@ -75,14 +73,8 @@ fn read_on(
     told: &mut String,
 ) -> Result<bool, AllocError>
     requires small { length text.now ≤ MAX_SCRIPT }
-    requires mode { mode_of builder.old ≡ mode }
-    requires reads { Goes builder.old }
-    requires inside { position builder.old ≤ length (seen text.now mode) }
-    requires sound { IsSound (seen text.now mode) builder.old }
-    ensures mode { IfOk result (λ more. more ≡ true → mode_of builder.new ≡ mode) }
-    ensures reads { IfOk result (λ more. more ≡ true → Goes builder.new) }
-    ensures inside { IfOk result (λ more. more ≡ true → position builder.new ≤ length (seen text.now mode)) }
-    ensures sound { IfOk result (λ more. more ≡ true → IsSound (seen text.now mode) builder.new) }
+    requires continues { Continues text.now mode builder.old }
+    ensures { IfOk result (λ more. more ≡ true → Continues text.now mode builder.new) }
 {
     match builder.run(text) {
         Ok(Next::Done(word)) => {

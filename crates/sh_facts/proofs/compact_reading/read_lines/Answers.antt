@@ -1,5 +1,7 @@
-use Rattle.std.proofs.Common.{◌≡◌, ℕ, ◌+◌, nat_eq, false, List, length, refl, sym, ap, ◌∙◌, subst, rules}
+use Rattle.std.proofs.Common.{◌≡◌, ℕ, ◌+◌, nat_eq, true, false, ◌&&◌, List, length, refl, sym, ap, ◌∙◌, subst, arith, rules}
 use Rattle.std.specs.Borrow.{Bor}
+use Rattle.std.proofs.lemmas.Bool.{and_parts}
+use Rattle.std.proofs.lemmas.Bool.Decides.{nat_tests}
 use Rattle.std.proofs.lemmas.List.{length-map}
 use Rattle.std.proofs.lemmas.Result.{err_from_is_err_and}
 use Rattle.sh_tree.specs.declared.tree.Command.{Command}
@@ -10,7 +12,7 @@ use Rattle.sh_facts.specs.CompactParts.{NoTurnsFit, ReadsTurns}
 use Rattle.sh_facts.specs.Fields.{claim_of, text_left}
 use Rattle.sh_facts.specs.ReadParts.{Misses, NoFunctionsFit}
 use Rattle.sh_facts.proofs.CertificateLemmas.{missing}
-use Rattle.sh_facts.proofs.CompactWholeLemmas.{has_first, has_counts, has_start, other_commands, other_functions, other_loops, no_start, no_turns, no_functions, whole, missed}
+use Rattle.sh_facts.proofs.CompactWholeLemmas.{has_first, has_counts, has_start, other_counts, other_loops, no_start, no_turns, no_functions, whole, missed}
 use Rattle.sh_facts.proofs.compact_reading.read_lines.Goals as goal
 
 pub returns-in_default-clause-reads : goal.returns-in_default-clause-reads
@@ -28,21 +30,15 @@ returns-in_default-behind_start-clause-reads c =
     absurd (has_start c.args.text.now c.args.names.now (loops_of c.args.commands.now) c.args.functions c.requires.form c.in-Ok.left.now c.in-Ok-behind_three.left.now (counts_of c.in-Ok-behind_three.counts) c.in_default-behind_start.field-0
     (sym c.in-Ok.ensures) (sym c.in-Ok-behind_three.ensures) (sym c.in_default-behind_start.ensures))
 
-pub returns-then-counts-commands-clause-reads : goal.returns-then-counts-commands-clause-reads
+pub returns-then-not-has-clause-reads : goal.returns-then-not-has-clause-reads
 unfolding text_left counts_left start_left
-returns-then-counts-commands-clause-reads c =
-    let n = c.in-Ok-behind_three.counts.commands in
-    let apart : nat_eq n (length c.args.commands.now) ≡ false = search rules in
+returns-then-not-has-clause-reads c =
+    let n = c.in-Ok-behind_three.counts in
+    let m = c.args.functions in
+    let apart : (nat_eq n.commands (length c.args.commands.now) && nat_eq n.functions m) ≡ false = search rules in
     let long : length (loops_of c.args.commands.now) ≡ length c.args.commands.now = length-map c.args.commands.now (λ (x : Bor Command). is_loop x.now) in
-    other_commands c.args.text.now c.args.names.now (loops_of c.args.commands.now) c.args.functions c.requires.form c.in-Ok.left.now c.in-Ok-behind_three.left.now c.in-Ok-behind_start.left.now (counts_of c.in-Ok-behind_three.counts)
-    (claim_of c.in-Ok-behind_start.start) (sym c.in-Ok.ensures) (sym c.in-Ok-behind_three.ensures) (sym c.in-Ok-behind_start.ensures) (ap (nat_eq n) long ∙ apart)
-
-pub returns-then-counts-functions-clause-reads : goal.returns-then-counts-functions-clause-reads
-unfolding text_left counts_left start_left
-returns-then-counts-functions-clause-reads c =
-    let apart : nat_eq c.in-Ok-behind_three.counts.functions c.args.functions ≡ false = search rules in
-    other_functions c.args.text.now c.args.names.now (loops_of c.args.commands.now) c.args.functions c.requires.form c.in-Ok.left.now c.in-Ok-behind_three.left.now c.in-Ok-behind_start.left.now (counts_of c.in-Ok-behind_three.counts)
-    (claim_of c.in-Ok-behind_start.start) (sym c.in-Ok.ensures) (sym c.in-Ok-behind_three.ensures) (sym c.in-Ok-behind_start.ensures) apart
+    other_counts c.args.text.now c.args.names.now (loops_of c.args.commands.now) m c.requires.form c.in-Ok.left.now c.in-Ok-behind_three.left.now c.in-Ok-behind_start.left.now (counts_of n)
+    (claim_of c.in-Ok-behind_start.start) (sym c.in-Ok.ensures) (sym c.in-Ok-behind_three.ensures) (sym c.in-Ok-behind_start.ensures) (ap (λ k. nat_eq n.commands k && nat_eq n.functions m) long ∙ apart)
 
 pub returns-then-counts-len-clause-reads : goal.returns-then-counts-len-clause-reads
 unfolding text_left counts_left start_left
@@ -100,8 +96,10 @@ returns-clause-reads c =
     let m = c.in-Ok-behind_three.counts.functions in
     let numbers_are : c.deref.result.now ≡ loop_numbers 1 (loops_of c.args.commands.now) = c.deref.ensures.value ∙ c.in_ok-numbers.ensures in
     let same : l ≡ length c.in_ok-numbers.numbers.items = search rules in
-    let all : n ≡ length c.args.commands.now = search rules in
-    let count : m ≡ c.args.functions = search rules in
+    let both : (nat_eq n (length c.args.commands.now) && nat_eq m c.args.functions) ≡ true = search rules in
+    let parts = and_parts (nat_eq n (length c.args.commands.now)) (nat_eq m c.args.functions) both in
+    let all : n ≡ length c.args.commands.now = grind (arith, nat_tests, parts) in
+    let count : m ≡ c.args.functions = grind (arith, nat_tests, parts) in
     let long : length (loops_of c.args.commands.now) ≡ length c.args.commands.now = length-map c.args.commands.now (λ (x : Bor Command). is_loop x.now) in
     let turns = subst (λ (ks : List ℕ). ReadsTurns c.args.names.now ks c.in-Ok-behind_start.left.now c.read_facts.new.rows c.in_ok-read.read.heads.entries c.in_ok-read.read.left.now c.read_turns.new.rows) numbers_are c.in_ok-read.ensures.ok in
     whole c.args.text.now c.args.names.now (loops_of c.args.commands.now) c.args.functions c.requires.form c.in-Ok.left.now c.in-Ok-behind_three.left.now c.in-Ok-behind_start.left.now (counts_of c.in-Ok-behind_three.counts)

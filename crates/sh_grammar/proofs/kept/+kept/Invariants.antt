@@ -1,6 +1,6 @@
 use Rattle.std.proofs.Common.{drop}
 use Rattle.sh_tree.specs.standard.language.Parts.{singles}
-use Rattle.sh_grammar.specs.Quotes.{chained}
+use Rattle.sh_bodies.specs.Singles.{chained}
 use Rattle.sh_grammar.proofs.KeptLemmas.{Left}
 use Rattle.sh_grammar.proofs.kept.+kept.Given as goal
 
