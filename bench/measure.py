@@ -49,7 +49,7 @@ ROUNDS = "10000000"
 FAMILY_SIZE = 40_000
 MOST_RATIO = 8
 MOST_GROWTH = 2.3
-# How long a certificate may be, in lengths of its script, and how long its check may take, in times of `lint`.
+# How long a certificate may be, in lengths of its script, and its check, in times of `lint`.
 MOST_LENGTH = 2
 MOST_CHECK = 1.5
 # Less is not told from what a process itself takes.
@@ -348,7 +348,7 @@ def measure_families(names, folder):
 
 
 def measure_certificate(kind, folder):
-    """A line for a kind, and whether its certificate is no longer, and its check no slower, than it may be."""
+    """A line for a kind, and whether its certificate is short enough, and its check fast enough."""
     path, cert = os.path.join(folder, "script.sh"), os.path.join(folder, "cert")
     with open(path, "w", encoding="ascii") as file:
         file.write(KINDS[kind](SIZES[-1]))

@@ -1,4 +1,7 @@
-"""Certificates as texts, of both versions, apart from the program: which lines have the form, and what the compact form of a full one is."""
+"""Certificates as texts, of both versions, apart from the program.
+
+Which lines have the form, and what the compact form of a full certificate is.
+"""
 
 import re
 
@@ -12,9 +15,10 @@ def is_number(text):
 
 
 def are_names(text, others=()):
-    """Whether these are rising names with commas between them, or nothing. The others may be among them."""
+    """Whether these are rising names, or others, with commas between them; or nothing."""
     names = text.split(b",") if text else []
-    return all(NAME.fullmatch(it) or it in others for it in names) and all(one < two for one, two in zip(names, names[1:]))
+    is_rising = all(one < two for one, two in zip(names, names[1:]))
+    return is_rising and all(NAME.fullmatch(it) or it in others for it in names)
 
 
 def is_drops(text):
@@ -29,7 +33,8 @@ def is_fact(text):
 
 def has_fields(line, tests):
     fields = line.split(b" ")
-    return len(fields) == len(tests) and all(test(it) if callable(test) else test == it for test, it in zip(tests, fields))
+    held = (one(it) if callable(one) else one == it for one, it in zip(tests, fields))
+    return len(fields) == len(tests) and all(held)
 
 
 def counts_of(line, words):
@@ -74,7 +79,9 @@ def fault_line(text):
     *lines, rest = text.split(b"\n")
     if not lines or lines[0] not in (b"shset certificate 1", b"shset certificate 2"):
         return 1
-    words, forms = ([b"commands", b"functions"], full_forms) if lines[0].endswith(b"1") else ([b"commands", b"functions", b"loops"], compact_forms)
+    is_full = lines[0].endswith(b"1")
+    words = [b"commands", b"functions", *([] if is_full else [b"loops"])]
+    forms = full_forms if is_full else compact_forms
     counts = counts_of(lines[1], words) if len(lines) > 1 else None
     if counts is None:
         return 2
@@ -87,10 +94,11 @@ def fault_line(text):
 
 
 def compact_of(full, args, names):
-    """The compact form of a full certificate, where so many operands and these names are declared."""
+    """The compact form of a full certificate, if so many operands and these names are declared."""
     _, counts, *lines = full.splitlines()
     start = b",".join(sorted({b"IFS", b"OPTIND", b"PPID", *names}))
-    heads = [fields for fields in map(bytes.split, lines) if fields[0] == b"c" and len(fields) == 6]
+    heads = [it for it in map(bytes.split, lines) if it[0] == b"c" and len(it) == 6]
     turns = [b"h %s %s" % (fields[1], fields[5]) for fields in heads]
     functions = [line for line in lines if line.startswith(b"f ")]
-    return b"\n".join([b"shset certificate 2", b"%s loops %d" % (counts, len(turns)), b"s %d:%s:" % (args, start), *turns, *functions, b""])
+    first = b"shset certificate 2\n%s loops %d\ns %d:%s:" % (counts, len(turns), args, start)
+    return b"\n".join([first, *turns, *functions, b""])
