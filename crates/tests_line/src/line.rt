@@ -352,7 +352,7 @@ Usage: shset <COMMAND>
 
 Commands:
   lint   Prints what is wrong with a script, or that it is clean
-  cert   Prints what is surely set at each place of a script, as a certificate
+  cert   Prints what is surely set at the start, in loops and round functions, as a certificate
   check  Prints what is wrong with a script by a certificate of it, or that it is clean
   print  Prints a script in one layout, without its comments
 
@@ -375,6 +375,7 @@ Examples:
   shset lint deploy.sh HOME PATH   HOME and PATH are set when the script starts
   shset lint --args 2 copy.sh      the script always gets two operands, or more
   shset cert x.sh >x.cert && shset check x.sh x.cert
+  shset cert --full x.sh           what is set before and after each command too
 
 One call reads one script: 'shset lint a.sh b' takes b for the name of a variable.
 ";
