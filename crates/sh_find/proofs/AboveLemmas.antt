@@ -85,27 +85,27 @@ module _ (names : List Text) (h : AreNumbered names) (functions : List Text) (lo
     same_claim : (p : Place) → claims new p ≡ claims old p → facts (claim_there old_sheet (Some p)) ≡ facts (claim_there new_sheet (Some p))
     same_claim p e = claimed names h loops m old before p ∙ sym (ap (named names) e) ∙ sym (claimed names h loops m new after p)
 
-    pub lowered_above : (p : Place) (known : number.Facts) → IsLowered old new p known true → IsWithin (facts (claim_there d (Some p))) (by_name names known)
-        → IsBelow (certificate_of functions d) (certificate_of functions new_sheet)
+    pub lowered_above : (p : Place) (known : number.Facts) → IsLowered old new p known true
+        → ((slot : Slot) → place_of functions slot ≡ Some p → IsWithin (facts (claim_there d (Some p))) (by_name names known)) → IsBelow (certificate_of functions d) (certificate_of functions new_sheet)
     unfolding claim_there facts
     lowered_above p known low within =
         let b = to_places d old_sheet below in
         back_from d new_sheet (record {
-          claim = λ slot. at_place (place_of functions slot) (b.claim slot);
+          claim = λ slot. at_place (place_of functions slot) (within slot) (b.claim slot);
           drop = λ f. same_drops low.drops (number_of functions f) (b.drop f);
         })
       where
-        at_place : (o : Option Place) → IsWithin (facts (claim_there d o)) (facts (claim_there old_sheet o)) → IsWithin (facts (claim_there d o)) (facts (claim_there new_sheet o))
-        at_place None w = w
-        at_place (Some q) w = elim (cases_Bool (same q p)) [
-          | inl s ↦ subst (λ r. IsWithin (facts (claim_there d (Some r))) (facts (claim_there old_sheet (Some r))) → IsWithin (facts (claim_there d (Some r))) (facts (claim_there new_sheet (Some r)))) (sym (place_same q p s)) here w
+        at_place : (o : Option Place) → (o ≡ Some p → IsWithin (facts (claim_there d (Some p))) (by_name names known)) → IsWithin (facts (claim_there d o)) (facts (claim_there old_sheet o)) → IsWithin (facts (claim_there d o)) (facts (claim_there new_sheet o))
+        at_place None given w = w
+        at_place (Some q) given w = elim (cases_Bool (same q p)) [
+          | inl s ↦ subst (λ r. IsWithin (facts (claim_there d (Some r))) (facts (claim_there old_sheet (Some r))) → IsWithin (facts (claim_there d (Some r))) (facts (claim_there new_sheet (Some r)))) (sym (place_same q p s)) (here (given (ap Some (place_same q p s)))) w
           | inr s ↦ subst (IsWithin (facts (claim_there d (Some q)))) (same_claim q (low.elsewhere q s)) w
         ]
           where
-            here : IsWithin (facts (claim_there d (Some p))) (facts (claim_there old_sheet (Some p))) → IsWithin (facts (claim_there d (Some p))) (facts (claim_there new_sheet (Some p)))
-            here v =
+            here : IsWithin (facts (claim_there d (Some p))) (by_name names known) → IsWithin (facts (claim_there d (Some p))) (facts (claim_there old_sheet (Some p))) → IsWithin (facts (claim_there d (Some p))) (facts (claim_there new_sheet (Some p)))
+            here known_there v =
                 subst (IsWithin (facts (claim_there d (Some p)))) (sym (claimed names h loops m new after p ∙ ap (named names) (low.here refl)))
-                (met (claims old p) (facts (claim_there d (Some p))) known (subst (IsWithin (facts (claim_there d (Some p)))) (claimed names h loops m old before p) v) within)
+                (met (claims old p) (facts (claim_there d (Some p))) known (subst (IsWithin (facts (claim_there d (Some p)))) (claimed names h loops m old before p) v) known_there)
 
     -- what is dropped by both
     either : (part : Sets → ℕ → Bool) (both : (s z : Sets) (k : ℕ) → part (joined s z) k ≡ (part z k || part s k)) (sets : Sets) (o : Option Sets) (x : Text)

@@ -35,3 +35,4 @@ pub mod FillLemmas
 pub mod SideLemmas
 pub mod BeforeLemmas
 pub mod InnerLemmas
+pub mod CountLemmas

@@ -7,7 +7,7 @@ use Rattle.sh_domain.specs.Faults.{broken}
 use Rattle.sh_domain.specs.Knowledge.{AreNumbered}
 use Rattle.sh_domain.specs.Order.{IsBelow, IsWithin}
 use Rattle.sh_domain.specs.Sheets.{Sheet}
-use Rattle.sh_domain.specs.Views.{After}
+use Rattle.sh_domain.specs.Views.{After, Slot}
 use Rattle.sh_find.specs.Facts as number
 use Rattle.sh_rules.specs.Behind.{Behind}
 use Rattle.sh_rules.proofs.AboveLemmas.{above}
@@ -21,7 +21,7 @@ use Rattle.sh_rules.specs.Walks.{setting}
 use Rattle.sh_find.specs.declared.subject.Subject.{Subject}
 use Rattle.sh_find.specs.declared.place.Place.{Place}
 use Rattle.sh_find.specs.Numbers.{by_name}
-use Rattle.sh_find.specs.Places.{claim_there, is_stated_part}
+use Rattle.sh_find.specs.Places.{claim_there, is_stated_part, place_of}
 use Rattle.sh_find.specs.Sweeps.{setting_by, asked_of, Keeps, IsOver, Knows, KnowsBehind, IsPart, IsReady, IsSettled, IsSwept}
 use Rattle.sh_find.specs.Gathered.{Gathered}
 use Rattle.sh_find.specs.Turns.{IsQuiet, IsSunk, IsTurn, Stands, StatedStays, sheet_by}
@@ -176,7 +176,7 @@ sunk_swept s old new g changed n k r sunk stand quiet probe =
 pub lowered_swept : (s : Subject) (old new : kept.Certificate) (p : Place) (known : number.Facts) (changed : Bool) (n k : ℕ) → IsReady s old n
     → ((loops : List Bool) (m : ℕ) → IsWorking s.names.now loops m old → IsLowered old new p known changed)
     → ((loops : List Bool) (m : ℕ) → IsWorking s.names.now loops m old → IsWorking s.names.now loops m new)
-    → ((other : Sheet) → Keeps s other → IsWithin (facts (claim_there other (Some p))) (by_name s.names.now known)) → (s.stated ≡ true → is_stated_part p.part ≡ false) → k ≡ length s.names.now → IsSwept s old new k
+    → ((other : Sheet) → Keeps s other → (slot : Slot) → place_of (functions_in s.script.now s.tree.now) slot ≡ Some p → IsWithin (facts (claim_there other (Some p))) (by_name s.names.now known)) → (s.stated ≡ true → is_stated_part p.part ≡ false) → k ≡ length s.names.now → IsSwept s old new k
 lowered_swept s old new p known changed n k r low works stand free probe =
     record {
       working = works;

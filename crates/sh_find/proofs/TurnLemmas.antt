@@ -192,7 +192,7 @@ module _ (names : List Text) (loops : List Bool) (m : ℕ) (old mid new : kept.C
       by_first : AreNumbered names → (defined : List Text) (d : Sheet) → Stands names d g → IsBelow (certificate_of defined d) (certificate_of defined (sheet_by names old))
           → IsBelow (certificate_of defined d) (certificate_of defined (sheet_by names mid))
       by_first h defined d s below = elim (cases_Bool x) [
-        | inl e ↦ lowered_above names h defined loops m old mid before between d below g.place g.known (subst (IsLowered old mid g.place g.known) e first) s.place
+        | inl e ↦ lowered_above names h defined loops m old mid before between d below g.place g.known (subst (IsLowered old mid g.place g.known) e first) (λ slot placed. s.place)
         | inr e ↦ subst (λ c. IsBelow (certificate_of defined d) (certificate_of defined (sheet_by names c))) (sym (first.stays e)) below
       ]
 

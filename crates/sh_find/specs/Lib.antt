@@ -21,3 +21,4 @@ pub mod Functions
 pub mod Idle
 pub mod Sides
 pub mod Inner
+pub mod Counts

@@ -197,7 +197,8 @@ fn sweep_unit(subject: &Subject<'_>, draft: &mut Draft, unit: Unit) -> Result<()
     }
 }
 
-/// Lowers a certificate at the commands that wait until none does. A sweep is a hint: its clause is
+/// Lowers a certificate at the commands that wait until none does, or until the counts are to be
+/// solved apart. A sweep is a hint: its clause is
 /// true of one that lowers nothing too. The turns after it lower what it leaves.
 ///
 /// # Errors
@@ -212,6 +213,9 @@ pub fn sweep_waiting(subject: &Subject<'_>, draft: &mut Draft) -> Result<(), All
             return Ok(());
         };
         sweep_unit(subject, draft, unit)?;
+        if draft.is_tired() {
+            return Ok(());
+        }
     }
     Ok(())
 }

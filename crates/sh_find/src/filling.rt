@@ -46,9 +46,11 @@ fn filled(alloc: Global, subject: &Subject<'_>) -> Result<Certificate, AllocErro
     let mut probe = BitRow::empty(alloc, count)?;
     let certificate = begun(alloc, subject, &mut probe, commands, functions)?;
     let mut draft = Draft {
+        alloc,
         certificate,
         probe,
         lowered: 0,
+        rest: 0,
         looks: 0,
         entered: 0,
         waiting: Waiting::all(alloc, subject.table)?,

@@ -8,6 +8,7 @@ mod begun;
 mod bodies;
 mod choices;
 mod claims;
+mod counts;
 mod draft;
 mod filling;
 mod first;

@@ -52,7 +52,7 @@ pub fn sweep_rounds(
         if head == head_at(&*draft, command.number) {
             return Ok(());
         }
-        if is_once {
+        if is_once || draft.is_tired() {
             draft.waiting.wait(command.number)?;
             return Ok(());
         }

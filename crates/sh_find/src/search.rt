@@ -14,7 +14,8 @@ ghost use Rattle.sh_find.specs.Turns.{sheet_by};
 ghost use Rattle.sh_find.specs.Working.{IsWorking};
 
 use crate::bodies::{sweep_by_rounds, sweep_round, sweep_waiting};
-use crate::draft::Draft;
+use crate::counts::solve_counts;
+use crate::draft::{Draft, rest_after};
 use crate::first::unreached;
 use crate::gather::Target;
 use crate::subject::Subject;
@@ -39,6 +40,23 @@ pub enum Way {
     Once,
 }
 
+// Sweeps over the commands that wait. If it takes long, the counts are solved apart.
+fn sweep_by_need(subject: &Subject<'_>, draft: &mut Draft) -> Result<(), AllocError>
+    requires { IsReady subject.now draft.old.certificate draft.old.probe.count }
+    ensures { IfOk result (λ unit. IsSwept subject.now draft.old.certificate draft.new.certificate draft.new.probe.count) }
+{
+    for _time in 0..u32::MAX {
+        sweep_waiting(subject, draft)?;
+        if !draft.is_tired() {
+            return Ok(());
+        }
+        solve_counts(subject, draft)?;
+        draft.rest = rest_after(draft.lowered, subject.commands.len());
+        draft.waiting.wait_all();
+    }
+    Ok(())
+}
+
 // Sweeps over the commands of a script between two turns.
 fn sweep_so(subject: &Subject<'_>, draft: &mut Draft, way: Way) -> Result<(), AllocError>
     requires { IsReady subject.now draft.old.certificate draft.old.probe.count }
@@ -46,7 +64,7 @@ fn sweep_so(subject: &Subject<'_>, draft: &mut Draft, way: Way) -> Result<(), Al
 {
     match way {
         Way::ByRounds => sweep_by_rounds(subject, draft),
-        Way::ByNeed => sweep_waiting(subject, draft),
+        Way::ByNeed => sweep_by_need(subject, draft),
         Way::Once => sweep_round(subject, draft),
     }
 }
@@ -97,9 +115,11 @@ fn settled(alloc: Global, subject: &Subject<'_>, way: Way) -> Result<(Certificat
     let certificate = unreached(alloc, count, subject.commands, functions)?;
     let probe = BitRow::empty(alloc, count)?;
     let mut draft = Draft {
+        alloc,
         certificate,
         probe,
         lowered: 0,
+        rest: rest_after(0, subject.commands.len()),
         looks: 0,
         entered: 0,
         waiting: Waiting::all(alloc, subject.table)?,

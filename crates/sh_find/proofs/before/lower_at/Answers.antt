@@ -9,7 +9,7 @@ pub returns-clause-swept : goal.returns-clause-swept
 returns-clause-swept c =
     swept_same c.args.subject.now _ _ _ _ _
     (lowered_swept c.args.subject.now c.args.draft.now.certificate c.lower.new.certificate c.args.place _ _ c.args.draft.now.probe.count _ c.requires.ready c.in_ok-is_lowered.ensures.lowered
-    c.in_ok-is_lowered.ensures.working c.requires.stands c.requires.free c.in_ok-is_lowered.ensures.probed)
+    c.in_ok-is_lowered.ensures.working (λ other keeps slot placed. c.requires.stands other keeps) c.requires.free c.in_ok-is_lowered.ensures.probed)
     c.note_place.ensures.certificate (ap (λ p. p.count) c.note_place.ensures.probe)
 
 pub returns-clause-fits : goal.returns-clause-fits

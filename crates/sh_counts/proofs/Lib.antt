@@ -1,0 +1,2 @@
+mod FallLemmas
+mod WayLemmas

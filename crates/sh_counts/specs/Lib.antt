@@ -1,0 +1,4 @@
+pub mod Equations
+pub mod Falls
+pub mod Meets
+pub mod Ways

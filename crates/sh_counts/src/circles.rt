@@ -1,0 +1,92 @@
+//! Equations in a circle bound a count by itself.
+ghost use Rattle.std.specs.Prelude.{◌≡◌, ◌≤◌, ℕ, IfSome};
+ghost use Rattle.sh_counts.specs.Equations.{made};
+ghost use Rattle.sh_counts.specs.Ways.{made_by};
+
+use crate::equations::Change;
+
+/// What changes one after another make of a count: so many times it, with so many more and then so
+/// many less, within a least and a greatest count.
+#[derive(Clone, Copy, Debug, PartialEq, Eq)]
+pub struct Way {
+    times: u32,
+    plus: u32,
+    minus: u32,
+    least: u16,
+    most: u16,
+    ghost ordered: { least ≤ most },
+}
+
+impl Way {
+    /// One change.
+    #[tactic(auto, unfolding(crate::specs::Equations::made))]
+    pub fn of(change: Change) -> Way
+        ensures { (n : ℕ) → n ≤ 65535 → made_by result.times result.plus result.minus result.least result.most n ≡ made change n }
+    {
+        match change {
+            Change::Raise(least) => Way::line(1, 0, 0, least),
+            Change::Shift(gone) => Way::line(1, 0, gone, 0),
+            Change::Words { ones, parameters } => Way::line(parameters, ones, 0, 0),
+        }
+    }
+
+    fn line(times: u32, plus: u32, minus: u32, least: u16) -> Way
+        ensures times { result.times ≡ times }
+        ensures plus { result.plus ≡ plus }
+        ensures minus { result.minus ≡ minus }
+        ensures least { result.least ≡ least }
+        ensures most { result.most ≡ 65535 }
+    {
+        Way {
+            times,
+            plus,
+            minus,
+            least,
+            most: u16::MAX,
+        }
+    }
+
+    // What it makes of a count.
+    fn made(self, count: u16) -> u16
+        ensures { result ≡ made_by self.times self.plus self.minus self.least self.most count }
+    {
+        let raised = u64::from(self.times) * u64::from(count) + u64::from(self.plus);
+        let line = raised.saturating_sub(u64::from(self.minus));
+        line.min(u64::from(self.most)).max(u64::from(self.least)) as u16
+    }
+
+    /// What a change makes first and this way then, if its numbers do not overflow.
+    pub fn behind(self, change: Change) -> Option<Way>
+        ensures { IfSome result (λ way. (n : ℕ) → n ≤ 65535 → made_by way.times way.plus way.minus way.least way.most n ≡ made_by self.times self.plus self.minus self.least self.most (made change n)) }
+    {
+        let first = Way::of(change);
+        let times = self.times.checked_mul(first.times)?;
+        let plus = self.times.checked_mul(first.plus)?.checked_add(self.plus)?;
+        let minus = self
+            .times
+            .checked_mul(first.minus)?
+            .checked_add(self.minus)?;
+        let least = self.made(first.least);
+        let most = self.made(first.most);
+        Some(Way {
+            times,
+            plus,
+            minus,
+            least,
+            most,
+        })
+    }
+
+    /// A bound on each count up to this one that is at most what the way makes of it. It is what the
+    /// way makes of this count, or the least count that the way makes if the way takes that lower.
+    pub fn greatest(self, count: u16) -> u16
+        ensures { (n : ℕ) → n ≤ count → n ≤ made_by self.times self.plus self.minus self.least self.most n → n ≤ result }
+    {
+        let most = self.made(count).min(count);
+        if most <= self.made(most) {
+            most
+        } else {
+            self.least
+        }
+    }
+}

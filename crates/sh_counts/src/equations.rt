@@ -1,0 +1,170 @@
+//! Equations over numbers of positional parameters, with no set of names (XCU 2.5.1).
+ghost use Rattle.std.specs.Prelude.{◌≡◌, ◌++◌, ◌∷◌, [], length, IfOk, OnOk, OnErr};
+ghost use Rattle.sh_counts.specs.Equations.{made};
+ghost use Rattle.sh_counts.specs.Meets.{Changes, IsLesser, Meets};
+
+use std::alloc::{AllocError, Global};
+
+/// An unknown count, by its place among those of its equations.
+#[derive(Clone, Copy, Debug, PartialEq, Eq)]
+pub struct Count {
+    pub index: usize,
+}
+
+/// What happens to a count on the way from one place to another.
+#[derive(Clone, Copy, Debug, PartialEq, Eq)]
+pub enum Change {
+    /// There are at least so many.
+    Raise(u16),
+    /// So many are gone, or all.
+    Shift(u32),
+    /// The parameters are now words: so many that give one each, and so many that give all there
+    /// were. There are at most 65,535.
+    Words { ones: u32, parameters: u32 },
+}
+
+/// A count is at most what a change makes of another one.
+#[derive(Clone, Copy, Debug, PartialEq, Eq)]
+pub struct Equation {
+    pub count: Count,
+    pub source: Count,
+    pub change: Change,
+}
+
+/// Unknown counts, and equations over them.
+#[derive(Drop)]
+pub struct Equations {
+    // What each count is at most, whatever the others are.
+    most: Vec<u16>,
+    all: Vec<Equation>,
+}
+
+impl Change {
+    /// The same count.
+    pub const NONE: Change = Change::Raise(0);
+
+    /// What it makes of a count.
+    #[tactic(auto, unfolding(crate::specs::Equations::made))]
+    pub fn of(self, count: u16) -> u16
+        ensures { result ≡ made self count }
+    {
+        match self {
+            Change::Raise(least) => count.max(least),
+            Change::Shift(gone) => u32::from(count).saturating_sub(gone) as u16,
+            Change::Words { ones, parameters } => {
+                let total = u64::from(ones) + u64::from(parameters) * u64::from(count);
+                total.min(65_535) as u16
+            }
+        }
+    }
+}
+
+impl Equations {
+    /// No unknown count, and no equation.
+    pub fn none(alloc: Global) -> Equations
+        ensures most { result.most.items ≡ [] }
+        ensures all { result.all.items ≡ [] }
+    {
+        Equations {
+            most: Vec::new(alloc),
+            all: Vec::new(alloc),
+        }
+    }
+
+    /// What each count is at most, whatever the others are.
+    pub fn most(&self) -> &[u16]
+        ensures { result.now ≡ self.now.most.items }
+    {
+        self.most.as_slice()
+    }
+
+    /// The equations.
+    pub fn all(&self) -> &[Equation]
+        ensures { result.now ≡ self.now.all.items }
+    {
+        self.all.as_slice()
+    }
+
+    /// One more unknown count, of at most so many.
+    ///
+    /// # Errors
+    ///
+    /// If a growth was refused. The equations stay.
+    pub fn unknown(&mut self, most: u16) -> Result<Count, AllocError>
+        ensures fresh { IfOk result (λ count. count.index ≡ length self.old.most.items) }
+        ensures most { OnOk result (self.new.most.items ≡ self.old.most.items ++ most ∷ []) }
+        ensures err { OnErr result (self.new.most.items ≡ self.old.most.items) }
+        ensures all { self.new.all.items ≡ self.old.all.items }
+    {
+        let index = self.most.len();
+        self.most.push(most)?;
+        Ok(Count { index })
+    }
+
+    /// A count is at most what is made of another one.
+    ///
+    /// # Errors
+    ///
+    /// If a growth was refused. The equations stay.
+    pub fn bound(&mut self, count: Count, source: Count, change: Change) -> Result<(), AllocError>
+        ensures ok { OnOk result (self.new.all.items ≡ self.old.all.items ++ record { count = count; source = source; change = change } ∷ []) }
+        ensures err { OnErr result (self.new.all.items ≡ self.old.all.items) }
+        ensures most { self.new.most.items ≡ self.old.most.items }
+    {
+        self.all.push(Equation {
+            count,
+            source,
+            change,
+        })?;
+        Ok(())
+    }
+
+    /// What is made of a count.
+    ///
+    /// # Errors
+    ///
+    /// If a growth was refused.
+    pub fn changed(&mut self, source: Count, change: Change) -> Result<Count, AllocError>
+        ensures { IfOk result (Changes self.old self.new source change) }
+    {
+        if change == Change::NONE {
+            return Ok(source);
+        }
+        let count = self.unknown(u16::MAX)?;
+        self.bound(count, source, change)?;
+        Ok(count)
+    }
+
+    /// The lesser of the counts of two places, of those to which a run may come.
+    ///
+    /// # Errors
+    ///
+    /// If a growth was refused.
+    #[tactic(auto, unfolding(crate::specs::Meets::Meets))]
+    pub fn meet(
+        &mut self,
+        one: Option<Count>,
+        other: Option<Count>,
+    ) -> Result<Option<Count>, AllocError>
+        ensures { IfOk result (Meets self.old self.new one other) }
+    {
+        match (one, other) {
+            (Some(first), Some(second)) => Ok(Some(self.lesser(first, second)?)),
+            (Some(first), None) => Ok(Some(first)),
+            (None, second) => Ok(second),
+        }
+    }
+
+    // The lesser of two counts.
+    fn lesser(&mut self, first: Count, second: Count) -> Result<Count, AllocError>
+        ensures { IfOk result (IsLesser self.old self.new first second) }
+    {
+        if first == second {
+            return Ok(first);
+        }
+        let count = self.unknown(u16::MAX)?;
+        self.bound(count, first, Change::NONE)?;
+        self.bound(count, second, Change::NONE)?;
+        Ok(count)
+    }
+}

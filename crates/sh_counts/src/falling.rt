@@ -1,0 +1,302 @@
+//! The greatest counts that equations allow, by a queue of the counts that fell.
+ghost use Rattle.std.specs.Prelude.{◌≡◌, ◌<◌, ◌≤◌, ◌^◌, ℕ, true, false, length, get_or, sum, replicate, None, Some, IfOk, IfSome, IfNone, OnOk, slice_set};
+ghost use Rattle.std.specs.List.{All};
+ghost use Rattle.sh_counts.specs.declared.equations.Equations as declared;
+ghost use Rattle.sh_counts.specs.Equations.{IsGreatest, made, worth};
+ghost use Rattle.sh_counts.specs.Falls.{Fell, Follows, IsSettled, IsSound, Leads, StaysSound};
+
+use crate::circles::Way;
+use crate::equations::{Count, Equation, Equations};
+use crate::users::Users;
+use std::alloc::{AllocError, Global};
+use std::collections::VecDeque;
+
+/// Counts that only fall, and a queue of those that fell and wait, each at most once.
+#[derive(Drop)]
+struct Falling {
+    counts: Vec<u16>,
+    // The equation by which each count fell last.
+    reasons: Vec<Option<Equation>>,
+    queue: VecDeque<usize>,
+    waiting: Vec<bool>,
+    // How often a count fell since circles were looked for.
+    falls: usize,
+}
+
+fn no_reasons(alloc: Global, length: usize) -> Result<Vec<Option<Equation>>, AllocError>
+    ensures { IfOk result (λ reasons. (i : ℕ) → get_or reasons.items i None ≡ None) }
+{
+    let mut reasons = Vec::new(alloc);
+    for _ in 0..length {
+        reasons.push(None)?;
+    }
+    Ok(reasons)
+}
+
+impl Falling {
+    fn new(alloc: Global, most: &[u16]) -> Result<Falling, AllocError>
+        ensures counts { IfOk result (λ falling. falling.counts.items ≡ most.now) }
+        ensures reasons { IfOk result (λ falling. (i : ℕ) → get_or falling.reasons.items i None ≡ None) }
+    {
+        let counts = Vec::from_slice(alloc, most)?;
+        let reasons = no_reasons(alloc, most.len())?;
+        let waiting = vec![in alloc; false; most.len()]?;
+        Ok(Falling {
+            counts,
+            reasons,
+            queue: VecDeque::new(alloc),
+            waiting,
+            falls: 0,
+        })
+    }
+
+    fn count(&self, count: Count) -> u16
+        ensures { result ≡ worth self.now.counts.items count.index }
+    {
+        match self.counts.get(count.index) {
+            Some(number) => *number,
+            None => u16::MAX,
+        }
+    }
+
+    fn reason(&self, index: usize) -> Option<Equation>
+        ensures { result ≡ get_or self.now.reasons.items index None }
+    {
+        match self.reasons.get(index) {
+            Some(reason) => *reason,
+            None => None,
+        }
+    }
+
+    // Puts a count that fell into the queue, unless it is there.
+    fn wait(&mut self, index: usize) -> Result<(), AllocError>
+        ensures counts { self.new.counts ≡ self.old.counts }
+        ensures reasons { self.new.reasons ≡ self.old.reasons }
+    {
+        if index < self.waiting.len() && !self.waiting[index] {
+            self.waiting[index] = true;
+            self.queue.push_back(index)?;
+        }
+        Ok(())
+    }
+
+    // The count that waits longest.
+    fn take(&mut self) -> Option<usize>
+        ensures counts { self.new.counts ≡ self.old.counts }
+        ensures reasons { self.new.reasons ≡ self.old.reasons }
+    {
+        let index = self.queue.pop_front()?;
+        if index < self.waiting.len() {
+            self.waiting[index] = false;
+        }
+        Some(index)
+    }
+
+    // Lowers a count.
+    fn put(&mut self, index: usize, to: u16) -> Result<(), AllocError>
+        requires { index < length self.old.counts.items }
+        ensures counts { OnOk result (self.new.counts.items ≡ slice_set self.old.counts.items index to) }
+        ensures reasons { self.new.reasons ≡ self.old.reasons }
+    {
+        self.counts[index] = to;
+        self.falls = self.falls.saturating_add(1);
+        self.wait(index)
+    }
+
+    // Notes by which equation a count fell.
+    fn note(&mut self, equation: Equation)
+        ensures counts { self.new.counts ≡ self.old.counts }
+        ensures reasons { self.new.reasons.items ≡ slice_set self.old.reasons.items equation.count.index (Some equation) }
+    {
+        let index = equation.count.index;
+        if index < self.reasons.len() {
+            self.reasons[index] = Some(equation);
+        }
+    }
+
+    // What an equation lowers its count to, if it does.
+    fn lowered(&self, equation: Equation) -> Option<u16>
+        ensures given { IfSome result (λ n. n ≡ made equation.change (worth self.now.counts.items equation.source.index)) }
+        ensures there { IfSome result (λ n. equation.count.index < length self.now.counts.items) }
+        ensures less { IfSome result (λ n. n < worth self.now.counts.items equation.count.index) }
+        ensures none { IfNone result (equation.count.index < length self.now.counts.items → worth self.now.counts.items equation.count.index ≤ made equation.change (worth self.now.counts.items equation.source.index)) }
+    {
+        let given = equation.change.of(self.count(equation.source));
+        if equation.count.index < self.counts.len() && given < self.count(equation.count) {
+            Some(given)
+        } else {
+            None
+        }
+    }
+
+    // Lowers a count to what an equation gives. Returns whether it fell.
+    fn lower(&mut self, equation: Equation) -> Result<bool, AllocError>
+        ensures sound { OnOk result ((es : declared.Equations) → Follows es equation → StaysSound es self.old self.new) }
+        ensures fell { OnOk result (Fell self.old.counts.items self.new.counts.items) }
+        ensures less { IfOk result (λ b. b ≡ true → sum self.new.counts.items < sum self.old.counts.items) }
+        ensures same { IfOk result (λ b. b ≡ false → self.new.counts.items ≡ self.old.counts.items) }
+        ensures holds { IfOk result (λ b. b ≡ false → equation.count.index < length self.old.counts.items → worth self.old.counts.items equation.count.index ≤ made equation.change (worth self.old.counts.items equation.source.index)) }
+    {
+        match self.lowered(equation) {
+            Some(to) => {
+                self.note(equation);
+                self.put(equation.count.index, to)?;
+                Ok(true)
+            }
+            None => Ok(false),
+        }
+    }
+
+    // Lowers the counts of equations to what these give. Returns whether one fell.
+    #[tactic(auto, using(crate::proofs::FallLemmas::went_none, crate::proofs::FallLemmas::went_more))]
+    fn lower_each(&mut self, equations: &[Equation]) -> Result<bool, AllocError>
+        ensures sound { OnOk result ((es : declared.Equations) → All (Follows es) equations.now → StaysSound es self.old self.new) }
+        ensures fell { OnOk result (Fell self.old.counts.items self.new.counts.items) }
+        ensures less { IfOk result (λ b. b ≡ true → sum self.new.counts.items < sum self.old.counts.items) }
+        ensures settled { IfOk result (λ b. b ≡ false → IsSettled self.new.counts.items equations.now) }
+    {
+        let mut has_fallen = false;
+        for equation in equations {
+            has_fallen |= self.lower(*equation)?;
+        }
+        Ok(has_fallen)
+    }
+
+    // A count of the circle of reasons to which those of this one lead, if they meet no count that
+    // was marked before. Each count that they meet is marked.
+    fn circle(&self, marks: &mut [Option<usize>], index: usize) -> Option<usize> {
+        let mut at = index;
+        for _ in 0..self.counts.len() {
+            let mark = marks.get_mut(at)?;
+            if let Some(by) = *mark {
+                return if by == index { Some(at) } else { None };
+            }
+            *mark = Some(index);
+            at = self.reason(at)?.source.index;
+        }
+        Some(at)
+    }
+
+    // What the changes of a circle of reasons make of a count of it.
+    #[tactic(auto, using(crate::proofs::FallLemmas::leads_one, crate::proofs::FallLemmas::leads_more))]
+    fn way(&self, index: usize) -> Option<Way>
+        ensures { IfSome result (λ way. (es : declared.Equations) → IsSound es self.now.counts.items self.now.reasons.items → Leads es way index index) }
+    {
+        let first = self.reason(index)?;
+        let mut way = Way::of(first.change);
+        let mut at = first.source.index;
+        for _ in 0..self.counts.len() {
+            if at == index {
+                return Some(way);
+            }
+            let reason = self.reason(at)?;
+            way = way.behind(reason.change)?;
+            at = reason.source.index;
+        }
+        None
+    }
+
+    // Lowers a count of a circle to the greatest that the circle allows.
+    #[tactic(auto, using(crate::proofs::FallLemmas::fell_none, crate::proofs::FallLemmas::put_fell, crate::proofs::FallLemmas::round_sound))]
+    fn lower_round(&mut self, index: usize) -> Result<(), AllocError>
+        ensures sound { OnOk result ((es : declared.Equations) → StaysSound es self.old self.new) }
+        ensures fell { OnOk result (Fell self.old.counts.items self.new.counts.items) }
+    {
+        let Some(way) = self.way(index) else {
+            return Ok(());
+        };
+        let count = self.count(Count { index });
+        let greatest = way.greatest(count);
+        if index < self.counts.len() && greatest < count {
+            self.put(index, greatest)?;
+        }
+        Ok(())
+    }
+
+    // Lowers a count of each circle of reasons, which could else fall by one each time round.
+    #[tactic(auto, using(crate::proofs::FallLemmas::fell_none, crate::proofs::FallLemmas::fell_more))]
+    fn lower_circles(&mut self, alloc: Global) -> Result<(), AllocError>
+        ensures sound { OnOk result ((es : declared.Equations) → StaysSound es self.old self.new) }
+        ensures fell { OnOk result (Fell self.old.counts.items self.new.counts.items) }
+    {
+        self.falls = 0;
+        let mut marks = no_marks(alloc, self.counts.len())?;
+        for index in 0..self.counts.len() {
+            if let Some(met) = self.circle(marks.as_mut_slice(), index) {
+                self.lower_round(met)?;
+            }
+        }
+        Ok(())
+    }
+
+    // Looks for circles if as many counts fell since as there are.
+    #[tactic(auto, using(crate::proofs::FallLemmas::fell_none))]
+    fn look_round(&mut self, alloc: Global) -> Result<(), AllocError>
+        ensures sound { OnOk result ((es : declared.Equations) → StaysSound es self.old self.new) }
+        ensures fell { OnOk result (Fell self.old.counts.items self.new.counts.items) }
+    {
+        if self.falls > self.counts.len() {
+            self.lower_circles(alloc)?;
+        }
+        Ok(())
+    }
+
+    // Takes one count from the queue, and lowers those that take from it. Returns whether there was
+    // one.
+    #[tactic(auto, using(crate::proofs::FallLemmas::fell_more))]
+    fn step(&mut self, alloc: Global, users: &Users) -> Result<bool, AllocError>
+        ensures sound { OnOk result ((es : declared.Equations) → All (Follows es) users.now.equations.items → StaysSound es self.old self.new) }
+        ensures fell { OnOk result (Fell self.old.counts.items self.new.counts.items) }
+    {
+        self.look_round(alloc)?;
+        match self.take() {
+            Some(index) => {
+                self.lower_each(users.of_count(index))?;
+                Ok(true)
+            }
+            None => Ok(false),
+        }
+    }
+
+    // Lowers counts until none waits.
+    #[tactic(auto, using(crate::proofs::FallLemmas::fell_none, crate::proofs::FallLemmas::fell_more))]
+    fn settle(&mut self, alloc: Global, users: &Users) -> Result<(), AllocError>
+        ensures sound { OnOk result ((es : declared.Equations) → All (Follows es) users.now.equations.items → StaysSound es self.old self.new) }
+        ensures fell { OnOk result (Fell self.old.counts.items self.new.counts.items) }
+    {
+        for _ in 0..u64::MAX {
+            if !self.step(alloc, users)? {
+                break;
+            }
+        }
+        Ok(())
+    }
+}
+
+fn no_marks(alloc: Global, length: usize) -> Result<Vec<Option<usize>>, AllocError> {
+    let mut marks = Vec::new(alloc);
+    for _ in 0..length {
+        marks.push(None)?;
+    }
+    Ok(marks)
+}
+
+/// The greatest counts of which all equations hold, by their places.
+///
+/// # Errors
+///
+/// If a growth was refused.
+pub fn solve(alloc: Global, equations: &Equations) -> Result<Vec<u16>, AllocError>
+    ensures { IfOk result (λ counts. IsGreatest equations.now counts.items) }
+{
+    let users = Users::of(alloc, equations)?;
+    let mut falling = Falling::new(alloc, equations.most())?;
+    loop {
+        if !falling.lower_each(equations.all())? {
+            break;
+        }
+        falling.settle(alloc, &users)?;
+    }
+    let Falling { counts, .. } = falling;
+    Ok(counts)
+}

@@ -1,0 +1,10 @@
+//! The greatest numbers of positional parameters that equations allow.
+#![tactic(auto)]
+
+mod circles;
+mod equations;
+mod falling;
+mod users;
+
+pub use equations::{Change, Count, Equation, Equations};
+pub use falling::solve;

@@ -1,0 +1,299 @@
+-- What a walk over commands for their counts adds, by what they are.
+use Rattle.std.proofs.Common.{◌≡◌, ℕ, ◌<◌, if◌then◌else◌, length, List, [], ◌∷◌, ◌++◌, Option, Some, option_map, refl, sym, ap, ◌∙◌, subst, arith}
+use Rattle.sh_tree.specs.declared.tree.Branch.{Branch, out-Branch}
+use Rattle.sh_tree.specs.declared.tree.Clause.{Clause, out-Clause}
+use Rattle.sh_tree.specs.declared.tree.ClauseEnd.{ClauseEnd}
+use Rattle.sh_tree.specs.declared.tree.ClauseEnd.TheVariants as clause
+use Rattle.sh_tree.specs.declared.tree.Command.{Command, out-Command}
+use Rattle.sh_tree.specs.declared.tree.Kind.{Kind}
+use Rattle.sh_tree.specs.declared.tree.Script.{Script}
+use Rattle.sh_tree.specs.Lists.{branches_from, clauses_from, redirects_from, words_from}
+use Rattle.sh_tree.specs.standard.program.Syntax as p
+use Rattle.sh_tree.specs.standard.program.Syntax.{Text}
+use Rattle.sh_tree.specs.standard.program.Trees as trees
+use Rattle.sh_tree.proofs.ProgramRules as rules
+use Rattle.sh_domain.specs.declared.rule.FlowRule.{FlowRule}
+use Rattle.sh_domain.specs.declared.rule.FlowRule.TheVariants.{F6, F9, F13}
+use Rattle.sh_domain.specs.Entries as e
+use Rattle.sh_domain.specs.Entries.{Around, Entered, behind_redirects, script_entered}
+use Rattle.sh_domain.specs.Gains.{redirects_gains, word_gains}
+use Rattle.sh_domain.specs.Inclusions.{Each}
+use Rattle.sh_domain.specs.Names.{number_of}
+use Rattle.sh_domain.specs.Rules as r
+use Rattle.sh_domain.specs.Rules.{Constraint, bound, bounds, functions_of, leaves, losses}
+use Rattle.sh_domain.specs.Views as views
+use Rattle.sh_domain.specs.Views.{Before, Seen}
+use Rattle.sh_domain.proofs.EachLemmas.{each_parts}
+use Rattle.sh_counts.specs.declared.equations.Change.TheVariants.{Raise}
+use Rattle.sh_counts.specs.declared.equations.Count.{Count}
+use Rattle.sh_counts.specs.declared.equations.Equations.{Equations}
+use Rattle.sh_tally.specs.declared.bounds.Tally.{Tally}
+use Rattle.sh_tally.specs.declared.places.End.TheVariants as end
+use Rattle.sh_tally.specs.declared.places.Part.TheVariants as part
+use Rattle.sh_tally.specs.declared.views.After.{After}
+use Rattle.sh_tally.specs.declared.views.Views.{Views}
+use Rattle.sh_tally.specs.Tallies.{AreBounds, Tallies}
+use Rattle.sh_tally.specs.Views.{function_index, command_index, index_of}
+use Rattle.sh_tally.specs.Walks.{AddsBranch, AddsBranches, AddsClause, AddsClauses, AddsCommand, AddsFrom, AddsFunction, AddsKind, AddsLeaves, AddsOtherwise, AreKept, HasTexts, IsPart, Keeps, Passes, Sight, SightAfter, names}
+use Rattle.sh_tally.proofs.ViewLemmas.{raised_none, raised_see, see_defined, see_left}
+use Rattle.sh_tally.proofs.WalkLemmas.{Unbroken, before_index, entered_bounds, first_part, last_part, part_kept, place_bounds}
+
+-- A command
+
+each_first : {A : Type 0} (P : A → Type 0) (x : A) (xs : List A) → Each P (x ∷ xs) → P x
+unfolding Each
+each_first P x xs all = all.0
+
+module _ (s : Tally) (y : Around) where
+  -- what the rules ask of a command by its kind
+  kind_kept : (t : p.Items) (u : ℕ → ℕ) (k : Keeps s t u) (by : FlowRule) (q : Seen) (n offset : ℕ) (kind : p.Kind) (rs : p.Redirects) → IsPart t (e.command_entered by y q (p.command n offset kind rs))
+      → AreKept s t u k (r.kind_bounds (functions_of (script_entered t)) y n (behind_redirects n rs) kind)
+  unfolding bounds e.items_entered
+  kind_kept t u k by q n offset kind rs part =
+      let fs = functions_of (script_entered t) in
+      let one : Entered = record { command = p.command n offset kind rs; rule = by; around = y; seen = q } in
+      let before : List Constraint = bound (Before n) n by q in
+      let its : List Constraint = r.kind_bounds fs y n (behind_redirects n rs) kind in
+      let redirected : List Constraint = r.redirects_bounds n rs in
+      let counted : List Constraint = r.counted y.drops n (losses fs one) in
+      let own = first_part t (one ∷ []) (e.redirects_entered (views.at (Before n)) rs ++ e.kind_entered y n (behind_redirects n rs) kind) part in
+      let all : Each (Unbroken k.known k.claims) (bounds fs one) = each_first _ one [] (part_kept k.known k.claims t (one ∷ []) k.rules own) in
+      let last = each_parts (Unbroken k.known k.claims) (before ++ its ++ redirected) counted all in
+      let third = each_parts (Unbroken k.known k.claims) (before ++ its) redirected last.0 in
+      (each_parts (Unbroken k.known k.claims) before its third.0).1
+
+  kind_texts : (t : p.Items) (u : ℕ → ℕ) (k : Keeps s t u) (by : FlowRule) (q : Seen) (n offset : ℕ) (kind : p.Kind) (rs : p.Redirects) → IsPart t (e.command_entered by y q (p.command n offset kind rs))
+      → HasTexts s (p.command n offset kind rs)
+  unfolding e.items_entered
+  kind_texts t u k by q n offset kind rs part =
+      let one : Entered = record { command = p.command n offset kind rs; rule = by; around = y; seen = q } in
+      let rest : List Entered = e.redirects_entered (views.at (Before n)) rs ++ e.kind_entered y n (behind_redirects n rs) kind in
+      let all : Each (λ (x : Entered). HasTexts s x.command) (part.front ++ ((one ∷ rest) ++ part.back)) = subst (Each (λ (x : Entered). HasTexts s x.command)) part.whole k.texts in
+      each_first (λ (x : Entered). HasTexts s x.command) one (rest ++ part.back) (each_parts (λ (x : Entered). HasTexts s x.command) part.front ((one ∷ rest) ++ part.back) all).1
+
+  kind_part : (t : p.Items) (by : FlowRule) (q : Seen) (n offset : ℕ) (kind : p.Kind) (rs : p.Redirects) → IsPart t (e.command_entered by y q (p.command n offset kind rs)) → IsPart t (e.kind_entered y n (behind_redirects n rs) kind)
+  unfolding e.items_entered
+  kind_part t by q n offset kind rs part =
+      let one : Entered = record { command = p.command n offset kind rs; rule = by; around = y; seen = q } in
+      let inside : IsPart t (e.redirects_entered (views.at (Before n)) rs ++ e.kind_entered y n (behind_redirects n rs) kind) = last_part t (one ∷ []) _ part in
+      last_part t (e.redirects_entered (views.at (Before n)) rs) (e.kind_entered y n (behind_redirects n rs) kind) inside
+
+  none_redirected : (b : Text) (n : ℕ) (inside : Views) → Sight s (views.at (Before n)) inside → Sight s (behind_redirects n (redirects_from b [])) inside
+  unfolding redirects_from redirects_gains
+  none_redirected b n inside own = raised_see s.places.commands (names s) (views.at (Before n)) (redirects_gains p.no_redirects) inside inside (raised_none inside) own
+
+  module _ (m : Command) (known : Views) (place : Count) (old mid : Equations) (at : place.index ≡ command_index part.Before (out-Command m).number)
+      (asks : (u : ℕ → ℕ) → AreBounds s.places u place (Raise 0) known → Tallies s.places u old mid) where
+    -- what is in it is left out
+    pub command_bounded : (by : FlowRule) → AddsFrom s (λ q. e.command_entered by y q (trees.command_of s.script.now m)) known old mid
+    command_bounded by t u q k sight part = asks u (entered_bounds s y by m known place (before_index s m place at) t u q k sight part)
+
+    pub command_added : (inside : Views) (new : Equations) → (out-Command m).redirects ≡ [] → Sight s (views.at (Before (out-Command m).number)) inside
+        → AddsCommand s y (out-Command m).number (trees.kind_of s.script.now (out-Command m).kind) inside mid new
+        → (by : FlowRule) → AddsFrom s (λ q. e.command_entered by y q (trees.command_of s.script.now m)) known old new
+    command_added inside new none own adds by t u q k sight part tallied =
+        let b : Text = s.script.now in
+        let n : ℕ = (out-Command m).number in
+        let kind : p.Kind = trees.kind_of b (out-Command m).kind in
+        let whole : IsPart t (e.command_entered by y q (p.command n (out-Command m).at kind (redirects_from b []))) =
+        subst (λ rs. IsPart t (e.command_entered by y q (p.command n (out-Command m).at kind (redirects_from b rs)))) none (subst (λ z. IsPart t (e.command_entered by y q z)) (rules.command_of-out b m) part) in
+        adds (out-Command m).at (redirects_from b []) own (kind_texts t u k by q n (out-Command m).at kind (redirects_from b []) whole) t u (behind_redirects n (redirects_from b [])) k
+        (none_redirected b n inside own) (kind_part t by q n (out-Command m).at kind (redirects_from b []) whole) (kind_kept t u k by q n (out-Command m).at kind (redirects_from b []) whole)
+        (command_bounded by t u q k sight part tallied)
+
+  -- what a command is
+  pub kind_as : (n : ℕ) (x v : Kind) (z : p.Kind) (inside : Views) (old new : Equations) → x ≡ v → trees.kind_of s.script.now v ≡ z → AddsCommand s y n z inside old new → AddsCommand s y n (trees.kind_of s.script.now x) inside old new
+  kind_as n x v z inside old new is same h = subst (λ k. AddsCommand s y n k inside old new) (sym (ap (trees.kind_of s.script.now) is ∙ same)) h
+
+  pub compound_added : (n : ℕ) (z : p.Kind) (inside : Views) (old new : Equations) → AddsKind s y n z inside old new → AddsCommand s y n z inside old new
+  compound_added n z inside old new h offset rs own texts = h
+
+  pub left_out : (n : ℕ) (z : p.Kind) (inside : Views) (old : Equations) → AddsCommand s y n z inside old old
+  left_out n z inside old offset rs own texts t u q k sight part kept tallied = tallied
+
+  -- A function
+
+  return_index : (f : Text) (place : Count) → option_map (function_index s.places.commands end.Zero) (number_of (names s) f) ≡ Some place.index → index_of s.places.commands (names s) (views.ReturnsZero f) ≡ Some place.index
+  unfolding index_of
+  return_index f place is = is
+
+  fail_index : (f : Text) (place : Count) → option_map (function_index s.places.commands end.Nonzero) (number_of (names s) f) ≡ Some place.index → index_of s.places.commands (names s) (views.ReturnsNonzero f) ≡ Some place.index
+  unfolding index_of
+  fail_index f place is = is
+
+  zero_index : (n : ℕ) (place : Count) → place.index ≡ command_index part.Zero n → index_of s.places.commands (names s) (views.AfterZero n) ≡ Some place.index
+  unfolding index_of
+  zero_index n place is = ap Some (sym is)
+
+  body_kept : (d : _) (c : _) (f : Text) (m offset : ℕ) (kind : p.Kind) (rs : p.Redirects) → Each (Unbroken d c) (r.body_bounds f (p.command m offset kind rs))
+      → Each (Unbroken d c) (bound (views.ReturnsZero f) m F13 (views.at (views.AfterZero m))) × Each (Unbroken d c) (bound (views.ReturnsNonzero f) m F13 (views.at (views.AfterNonzero m)))
+  unfolding r.body_bounds
+  body_kept d c f m offset kind rs kept = each_parts (Unbroken d c) (bound (views.ReturnsZero f) m F13 (views.at (views.AfterZero m))) (bound (views.ReturnsNonzero f) m F13 (views.at (views.AfterNonzero m))) kept
+
+  pub define_added : (z : Around) (n : ℕ) (f : Text) (m : Command) (inside known : Views) (after : After) (place : Count) (old one two three new : Equations) → z ≡ e.in_function f → Sight s (views.at (views.Entry f)) known
+      → ((by : FlowRule) → AddsFrom s (λ q. e.command_entered by z q (trees.command_of s.script.now m)) known old one)
+      → SightAfter s (views.after_command (out-Command m).number) after → AddsFunction s end.Zero f after.zero (Raise 0) one two → AddsFunction s end.Nonzero f after.nonzero (Raise 0) two three
+      → place.index ≡ command_index part.Zero n → ((u : ℕ → ℕ) → AreBounds s.places u place (Raise 0) inside → Tallies s.places u three new)
+      → AddsCommand s y n (p.Define f (trees.command_of s.script.now m)) inside old new
+  unfolding e.items_entered r.kind_bounds views.if_zero views.if_nonzero
+  define_added z n f m inside known after place old one two three new outside own adds behind zero nonzero at asks offset rs here texts t u q k sight part kept tallied =
+      let b : Text = s.script.now in
+      let number : ℕ = (out-Command m).number in
+      let first : List Constraint = bound (views.AfterZero n) n F13 (views.stepped (views.Define f) (views.at (Before n))) in
+      let both = each_parts (Unbroken k.known k.claims) first (r.body_bounds f (trees.command_of b m)) kept in
+      let body = body_kept k.known k.claims f number _ _ _ (subst (λ c. Each (Unbroken k.known k.claims) (r.body_bounds f c)) (rules.command_of-out b m) both.1) in
+      asks u (place_bounds s t u k (views.AfterZero n) place n F13 (views.stepped (views.Define f) (views.at (Before n))) inside (zero_index n place at) both.0 (see_defined s.places.commands (names s) (views.at (Before n)) f inside here))
+      (nonzero u (λ to is. place_bounds s t u k (views.ReturnsNonzero f) to number F13 (views.at (views.AfterNonzero number)) after.nonzero (fail_index f to is) body.1 behind.nonzero)
+      (zero u (λ to is. place_bounds s t u k (views.ReturnsZero f) to number F13 (views.at (views.AfterZero number)) after.zero (return_index f to is) body.0 behind.zero)
+      (adds F13 t u (views.at (views.Entry f)) k own (subst (λ a. IsPart t (e.command_entered F13 a (views.at (views.Entry f)) (trees.command_of b m))) (sym outside) part) tallied)))
+
+  -- `if`
+
+  module _ (n : ℕ) where
+    pub record BranchesAt (t : p.Items) (u : ℕ → ℕ) (k : Keeps s t u) (old : Equations) (rest : List Branch) (now : Equations) (left : Views) : Type 0 where
+      pub seen : Seen
+      pub sight : Sight s seen left
+      pub part : IsPart t (e.branches_entered y seen (branches_from s.script.now rest))
+      pub kept : AreKept s t u k (r.branches_bounds n seen (branches_from s.script.now rest))
+      pub tallies : Tallies s.places u old now
+
+    pub record OtherwiseAt (all : Seen) (rest : List Branch) (left : Views) : Type 0 where
+      pub seen : Seen
+      pub sight : Sight s seen left
+      pub same : e.otherwise_seen seen (branches_from s.script.now rest) ≡ all
+
+    pub record BranchesLeft (known : Views) (all : List Branch) (old : Equations) (rest : List Branch) (now : Equations) (left : Views) : Type 0 where
+      pub adds : (t : p.Items) (u : ℕ → ℕ) (q : Seen) (k : Keeps s t u) → Sight s q known → IsPart t (e.branches_entered y q (branches_from s.script.now all))
+          → AreKept s t u k (r.branches_bounds n q (branches_from s.script.now all)) → BranchesAt t u k old rest now left
+      pub leaves : (q : Seen) → Sight s q known → OtherwiseAt (e.otherwise_seen q (branches_from s.script.now all)) rest left
+
+    pub branches_begun : (known : Views) (all : List Branch) (old : Equations) → BranchesLeft known all old all old known
+    branches_begun known all old = record {
+      adds = λ t u q k sight part kept. record { seen = q; sight = sight; part = part; kept = kept; tallies = λ x. x };
+      leaves = λ q sight. record { seen = q; sight = sight; same = refl };
+    }
+
+    pub branches_next : (known now left : Views) (all : List Branch) (old mid new : Equations) (x : Branch) (xs : List Branch) → BranchesLeft known all old (x ∷ xs) mid now
+        → AddsBranch s y n (trees.script_of s.script.now (out-Branch x).condition) (trees.script_of s.script.now (out-Branch x).body) now mid new
+        → ((q : Seen) → Sight s q now → Sight s (views.if_nonzero (e.items_after (views.Both q) (trees.script_of s.script.now (out-Branch x).condition))) left)
+        → BranchesLeft known all old xs new left
+    unfolding e.items_entered e.otherwise_seen r.branches_bounds branches_from
+    branches_next known now left all old mid new x xs before adds leaves = record {
+      adds = λ t u q k sight part kept.
+          let at = before.adds t u q k sight part kept in
+          let condition : p.Items = trees.script_of s.script.now (out-Branch x).condition in
+          let body : p.Items = trees.script_of s.script.now (out-Branch x).body in
+          let tested : views.After = e.items_after (views.Both at.seen) condition in
+          let first : List Entered = e.items_entered F6 y (views.Both at.seen) condition in
+          let second : List Entered = e.items_entered F6 y (views.Both (views.if_zero tested)) body in
+          let rest : List Entered = e.branches_entered y (views.if_nonzero tested) (branches_from s.script.now xs) in
+          let both = each_parts (Unbroken k.known k.claims) (r.leaves n F6 (e.items_after (views.Both (views.if_zero tested)) body)) (r.branches_bounds n (views.if_nonzero tested) (branches_from s.script.now xs)) at.kept in
+          let front : IsPart t (first ++ second) = first_part t (first ++ second) rest at.part in
+          record {
+            seen = views.if_nonzero tested;
+            sight = leaves at.seen at.sight;
+            part = last_part t (first ++ second) rest at.part;
+            kept = both.1;
+            tallies = λ tallied. adds t u at.seen k at.sight (first_part t first second front) (last_part t first second front) both.0 (at.tallies tallied);
+          };
+      leaves = λ q sight.
+          let at = before.leaves q sight in
+          record { seen = views.if_nonzero (e.items_after (views.Both at.seen) (trees.script_of s.script.now (out-Branch x).condition)); sight = leaves at.seen at.sight; same = at.same };
+    }
+
+    pub branches_added : (known left : Views) (all : List Branch) (old new : Equations) → BranchesLeft known all old [] new left → AddsBranches s y n (branches_from s.script.now all) known old new
+    branches_added known left all old new before t u q k sight part kept = (before.adds t u q k sight part kept).tallies
+
+    pub branches_seen : (known left : Views) (all : List Branch) (old new : Equations) → BranchesLeft known all old [] new left → (q : Seen) → Sight s q known → Sight s (e.otherwise_seen q (branches_from s.script.now all)) left
+    unfolding e.otherwise_seen branches_from
+    branches_seen known left all old new before q sight = let at = before.leaves q sight in subst (λ z. Sight s z left) at.same at.sight
+
+    pub else_added : (list : p.Items) (known : Views) (after : After) (old mid new : Equations) → ((by : FlowRule) → AddsFrom s (λ q. e.items_entered by y (views.Both q) list) known old mid)
+        → ((q : Seen) → Sight s q known → SightAfter s (e.items_after (views.Both q) list) after) → AddsLeaves s n after mid new → AddsOtherwise s y n (p.else_of list) known old new
+    unfolding e.items_entered r.otherwise_bounds
+    else_added list known after old mid new adds leaves more t u q k sight part kept tallied = more t u k F6 _ (leaves q sight) kept (adds F6 t u q k sight part tallied)
+
+    pub no_else_added : (known : Views) (place : Count) (old new : Equations) → place.index ≡ command_index part.Zero n → ((u : ℕ → ℕ) → AreBounds s.places u place (Raise 0) known → Tallies s.places u old new)
+        → AddsOtherwise s y n p.no_else known old new
+    unfolding r.otherwise_bounds
+    no_else_added known place old new at asks t u q k sight part kept = asks u (place_bounds s t u k (views.AfterZero n) place n F6 q known (zero_index n place at) kept sight)
+
+    pub otherwise_as : (x v : Option Script) (z : p.Otherwise) (f : Option Script → p.Otherwise) (known : Views) (old new : Equations) → x ≡ v → f v ≡ z → AddsOtherwise s y n z known old new → AddsOtherwise s y n (f x) known old new
+    otherwise_as x v z f known old new is same h = subst (λ o. AddsOtherwise s y n o known old new) (sym (ap f is ∙ same)) h
+
+    pub conditional_kind : (bs : p.Branches) (o : p.Otherwise) (inside left : Views) (old mid new : Equations) → AddsBranches s y n bs inside old mid → ((q : Seen) → Sight s q inside → Sight s (e.otherwise_seen q bs) left)
+        → AddsOtherwise s y n o left mid new → AddsKind s y n (p.Conditional bs o) inside old new
+    unfolding e.items_entered r.kind_bounds
+    conditional_kind bs o inside left old mid new adds seen more t u q k sight part kept tallied =
+        let both = each_parts (Unbroken k.known k.claims) (r.branches_bounds n q bs) (r.otherwise_bounds n (e.otherwise_seen q bs) o) kept in
+        more t u (e.otherwise_seen q bs) k (seen q sight) (last_part t (e.branches_entered y q bs) (e.otherwise_entered y (e.otherwise_seen q bs) o) part) both.1
+        (adds t u q k sight (first_part t (e.branches_entered y q bs) (e.otherwise_entered y (e.otherwise_seen q bs) o) part) both.0 tallied)
+
+    -- `case`
+
+    pub record ClausesAt (t : p.Items) (u : ℕ → ℕ) (k : Keeps s t u) (q : Seen) (old : Equations) (rest : List Clause) (now : Equations) : Type 0 where
+      pub fallen : Seen
+      pub part : IsPart t (e.clauses_entered y q fallen (clauses_from s.script.now rest))
+      pub kept : AreKept s t u k (r.clauses_bounds n q fallen (clauses_from s.script.now rest))
+      pub tallies : Tallies s.places u old now
+
+    pub record ClausesLeft (known : Views) (all : List Clause) (old : Equations) (rest : List Clause) (now : Equations) : Type 0 where
+      pub adds : (t : p.Items) (u : ℕ → ℕ) (q fallen : Seen) (k : Keeps s t u) → Sight s q known → IsPart t (e.clauses_entered y q fallen (clauses_from s.script.now all))
+          → AreKept s t u k (r.clauses_bounds n q fallen (clauses_from s.script.now all)) → ClausesAt t u k q old rest now
+
+    pub clauses_begun : (known : Views) (all : List Clause) (old : Equations) → ClausesLeft known all old all old
+    clauses_begun known all old = record { adds = λ t u q fallen k sight part kept. record { fallen = fallen; part = part; kept = kept; tallies = λ x. x } }
+
+    last_kept : (d : _) (c : _) (end : ClauseEnd) (rest : p.Clauses) (ks : List Constraint) → Each (Unbroken d c) (if r.is_last end rest then ks else []) → end ≡ clause.Break → Each (Unbroken d c) ks
+    unfolding r.is_last
+    last_kept d c end rest ks kept is = subst (λ m. Each (Unbroken d c) (if r.is_last m rest then ks else [])) is kept
+
+    pub clauses_next : (known : Views) (all : List Clause) (old mid new : Equations) (x : Clause) (xs : List Clause) → ClausesLeft known all old (x ∷ xs) mid
+        → AddsClause s y n (trees.script_of s.script.now (out-Clause x).body) (out-Clause x).end known mid new → ClausesLeft known all old xs new
+    unfolding e.items_entered r.clauses_bounds clauses_from
+    clauses_next known all old mid new x xs before adds = record {
+      adds = λ t u q fallen k sight part kept.
+          let at = before.adds t u q fallen k sight part kept in
+          let body : p.Items = trees.script_of s.script.now (out-Clause x).body in
+          let end : ClauseEnd = (out-Clause x).end in
+          let both : Seen = q ++ at.fallen in
+          let behind : views.After = e.items_after (views.Both both) body in
+          let patterns : List Entered = e.patterns_entered q (words_from s.script.now (out-Clause x).patterns) in
+          let first : List Entered = e.items_entered F9 y (views.Both both) body in
+          let rest : List Entered = e.clauses_entered y q (e.falls end behind) (clauses_from s.script.now xs) in
+          let ends : List Constraint = if r.is_last end (clauses_from s.script.now xs) then r.leaves n F9 behind else [] in
+          let parts = each_parts (Unbroken k.known k.claims) ends (r.clauses_bounds n q (e.falls end behind) (clauses_from s.script.now xs)) at.kept in
+          let own : IsPart t first = last_part t patterns first (first_part t (patterns ++ first) rest at.part) in
+          record {
+            fallen = e.falls end behind;
+            part = last_part t (patterns ++ first) rest at.part;
+            kept = parts.1;
+            tallies = λ tallied.
+                adds t u both k (see_left s.places.commands (names s) q at.fallen known sight) own (last_kept k.known k.claims end (clauses_from s.script.now xs) (r.leaves n F9 behind) parts.0) (at.tallies tallied);
+          };
+    }
+
+    pub clauses_added : (known : Views) (all : List Clause) (old new : Equations) → ClausesLeft known all old [] new → AddsClauses s y n (clauses_from s.script.now all) known old new
+    clauses_added known all old new before t u q fallen k sight part kept = (before.adds t u q fallen k sight part kept).tallies
+
+    pub ended_clause : (body : p.Items) (end : ClauseEnd) (known : Views) (after : After) (old mid new : Equations) → end ≡ clause.Break → ((by : FlowRule) → AddsFrom s (λ q. e.items_entered by y (views.Both q) body) known old mid)
+        → ((q : Seen) → Sight s q known → SightAfter s (e.items_after (views.Both q) body) after) → AddsLeaves s n after mid new → AddsClause s y n body end known old new
+    ended_clause body end known after old mid new is adds leaves more t u q k sight part kept tallied = more t u k F9 _ (leaves q sight) (kept is) (adds F9 t u q k sight part tallied)
+
+    pub fallen_clause : (body : p.Items) (end : ClauseEnd) (known : Views) (old mid : Equations) → ((by : FlowRule) → AddsFrom s (λ q. e.items_entered by y (views.Both q) body) known old mid) → AddsClause s y n body end known old mid
+    fallen_clause body end known old mid adds t u q k sight part kept tallied = adds F9 t u q k sight part tallied
+
+    pub case_kind : (w : p.Word) (cs : p.Clauses) (inside behind : Views) (old mid new : Equations) → Passes s (λ q. e.word_entered q w) (word_gains w) inside behind old mid → AddsClauses s y n cs behind mid new
+        → AddsKind s y n (p.Case w cs) inside old new
+    unfolding e.items_entered r.kind_bounds
+    case_kind w cs inside behind old mid new word adds t u q k sight part kept tallied =
+        let first : List Entered = e.word_entered q w in
+        let rest : List Entered = e.clauses_entered y (views.gaining (word_gains w) q) [] cs in
+        let left : List Constraint = r.clauses_bounds n (views.gaining (word_gains w) q) [] cs in
+        let own = each_parts (Unbroken k.known k.claims) left (if r.matches_always cs then [] else bound (views.AfterZero n) n F9 (views.gaining (word_gains w) q)) kept in
+        adds t u (views.gaining (word_gains w) q) [] k (raised_see s.places.commands (names s) q (word_gains w) inside behind word.gained sight) (last_part t first rest part) own.0
+        (word.adds t u q k sight (first_part t first rest part) tallied)
+
+pub empty_of : {X : Type 0} (xs : List X) → length xs < 1 → xs ≡ []
+empty_of [] few = refl
+empty_of (x ∷ xs) few = absurd (omega (arith, few))

@@ -1,0 +1,4 @@
+pub mod Counts
+pub mod Tallies
+pub mod Views
+pub mod Walks

@@ -1,0 +1,79 @@
+-- Which views of what is known somewhere are looked at for counts.
+-- POSIX.1-2024, XCU 2.5.1 (positional parameters).
+use Rattle.std.specs.Prelude.{◌≡◌, ℕ, ◌+◌, ◌*◌, ◌≤◌, max, List, ◌∷◌, ◌++◌, Option, Some, None, option_map, IfSome}
+use Rattle.sh_tree.specs.standard.program.Syntax.{Text}
+use Rattle.sh_domain.specs.Names.{number_of}
+use Rattle.sh_domain.specs.Views as views
+use Rattle.sh_domain.specs.Views.{Certificate, Slot, Seen, Before, AfterZero, AfterNonzero, Head, Entry, ReturnsZero, ReturnsNonzero, At, if_zero, if_nonzero}
+use Rattle.sh_tally.specs.declared.places.End.{End}
+use Rattle.sh_tally.specs.declared.places.End.TheVariants as end
+use Rattle.sh_tally.specs.declared.places.Part.{Part}
+use Rattle.sh_tally.specs.declared.places.Part.TheVariants as part
+use Rattle.sh_tally.specs.declared.views.After.{After}
+use Rattle.sh_tally.specs.declared.views.View.{View}
+use Rattle.sh_tally.specs.declared.views.Views.{Views}
+use Rattle.sh_tally.specs.Counts.{AllPass, all_made}
+
+unfoldable pub part_place : Part → ℕ
+part_place part.Before = 0
+part_place part.Zero = 1
+part_place part.Nonzero = 2
+part_place part.Head = 3
+
+unfoldable pub end_place : End → ℕ
+end_place end.Entered = 0
+end_place end.Zero = 1
+end_place end.Nonzero = 2
+
+abbrev pub command_index : Part → ℕ → ℕ
+command_index p number = number * 7 + part_place p
+
+abbrev pub function_index : ℕ → End → ℕ → ℕ
+function_index commands e function = function * 7 + (4 + end_place e)
+
+-- The place of a slot, where there are so many commands and the functions have these names.
+unfoldable pub index_of : ℕ → List Text → Slot → Option ℕ
+index_of commands functions (Before n) = Some (command_index part.Before n)
+index_of commands functions (AfterZero n) = Some (command_index part.Zero n)
+index_of commands functions (AfterNonzero n) = Some (command_index part.Nonzero n)
+index_of commands functions (Head n) = Some (command_index part.Head n)
+index_of commands functions (Entry f) = option_map (function_index commands end.Entered) (number_of functions f)
+index_of commands functions (ReturnsZero f) = option_map (function_index commands end.Zero) (number_of functions f)
+index_of commands functions (ReturnsNonzero f) = option_map (function_index commands end.Nonzero) (number_of functions f)
+
+module _ (commands : ℕ) (functions : List Text) where
+  -- the view is one of a place, over steps without a call that leave at most the greater of its count and the least one
+  pub record Shows (h : View) (v : views.View) : Type 0 where
+    pub slot : Slot
+    pub source : v.source ≡ At slot
+    pub place : index_of commands functions slot ≡ Some h.source.index
+    pub passes : (c : Certificate) → AllPass c v.steps
+    pub made : (n : ℕ) → all_made v.steps n ≤ max n h.least
+
+  -- one of what is seen
+  pub record Sees (q : Seen) (h : View) : Type 0 where
+    pub view : views.View
+    pub front : Seen
+    pub back : Seen
+    pub one : q ≡ front ++ (view ∷ back)
+    pub shows : Shows h view
+
+  -- all of them are
+  pub record See (q : Seen) (known : Views) : Type 0 where
+    pub first : IfSome known.first (Sees q)
+    pub second : IfSome known.second (Sees q)
+
+  -- by the status
+  pub record SeeAfter (o : views.After) (known : After) : Type 0 where
+    pub zero : See (if_zero o) known.zero
+    pub nonzero : See (if_nonzero o) known.nonzero
+
+-- A view is left behind expansions after which there are at least so many parameters, or none is left.
+unfoldable pub RaisedView : ℕ → Option View → Option View → Type 0
+RaisedView n old None = Unit {0}
+RaisedView n None (Some k) = ⊥
+RaisedView n (Some h) (Some k) = (k.source ≡ h.source) × (max h.least n ≤ k.least)
+
+pub record Raised (n : ℕ) (old new : Views) : Type 0 where
+  pub first : RaisedView n old.first new.first
+  pub second : RaisedView n old.second new.second

@@ -1,0 +1,215 @@
+-- What a walk over a script for its counts does: it adds equations that each certificate solves which keeps the flow rules, and leaves views of
+-- what is known behind what it went over.
+-- POSIX.1-2024, XCU 2.5.1 (positional parameters), 2.9 (shell commands).
+use Rattle.std.specs.Prelude.{◌≡◌, ℕ, ◌≤◌, max, map, option_map, List, Some, [], ◌++◌, flat_map}
+use Rattle.sh_tree.specs.declared.tree.ClauseEnd.{ClauseEnd}
+use Rattle.sh_tree.specs.declared.tree.ClauseEnd.TheVariants as clause
+use Rattle.sh_tree.specs.standard.program.Syntax as p
+use Rattle.sh_tree.specs.standard.program.Syntax.{Text}
+use Rattle.sh_tree.specs.standard.program.Words.{assignments_in, operands_in, static_of}
+use Rattle.sh_table.specs.Calls.{texts_with}
+use Rattle.sh_table.specs.standard.runs.Environment.{is_one_of}
+use Rattle.sh_domain.specs.declared.rule.FlowRule.{FlowRule}
+use Rattle.sh_domain.specs.declared.rule.FlowRule.TheVariants.{F6, F9}
+use Rattle.sh_domain.specs.Entries as entries
+use Rattle.sh_domain.specs.Entries.{Entered, kind_entered, script_entered}
+use Rattle.sh_domain.specs.Facts.{Facts, NotReached, Known, facts}
+use Rattle.sh_domain.specs.Faults.{broken}
+use Rattle.sh_domain.specs.Gains.{Gains, words_gains}
+use Rattle.sh_domain.specs.Inclusions.{Each}
+use Rattle.sh_domain.specs.Names.{number_of}
+use Rattle.sh_domain.specs.Rules.{Constraint, branches_bounds, clauses_bounds, functions_of, kind_bounds, leaves, otherwise_bounds, script_bounds, simple_bounds}
+use Rattle.sh_domain.specs.Table.{Manner, behind_words, manner, operands, redirections_gains, values_gains}
+use Rattle.sh_domain.specs.Views as views
+use Rattle.sh_domain.specs.Views.{Before, Certificate, Seen, Slot}
+use Rattle.sh_counts.specs.declared.equations.Change.{Change}
+use Rattle.sh_counts.specs.declared.equations.Change.TheVariants.{Raise}
+use Rattle.sh_counts.specs.declared.equations.Count.{Count}
+use Rattle.sh_counts.specs.declared.equations.Equations.{Equations}
+use Rattle.sh_counts.specs.Equations.{worth}
+use Rattle.sh_tally.specs.declared.bounds.Tally.{Tally}
+use Rattle.sh_tally.specs.declared.places.End.{End}
+use Rattle.sh_tally.specs.declared.views.After.{After}
+use Rattle.sh_tally.specs.declared.views.Views.{Views}
+use Rattle.sh_tally.specs.Tallies.{AreBounds, Tallies, claimed}
+use Rattle.sh_tally.specs.Views.{Raised, See, SeeAfter, function_index, index_of}
+
+-- a run comes there, and so many parameters are sure
+unfoldable pub HasCount : ℕ → Facts → Type 0
+HasCount n NotReached = ⊥
+HasCount n (Known v f a) = n ≡ a
+
+-- commands that stand together in a script, as they are entered
+pub record IsPart (t : p.Items) (es : List Entered) : Type 0 where
+  pub front : List Entered
+  pub back : List Entered
+  pub whole : script_entered t ≡ front ++ (es ++ back)
+
+module _ (s : Tally) where
+  abbrev pub names : List Text
+  names = s.table.now.functions.names
+
+  -- the table has the static texts of the words of a simple command
+  pub record AreTexts (n : ℕ) (es : p.Elements) : Type 0 where
+    pub script : s.table.now.script ≡ s.script.now
+    pub texts : texts_with n s.table.now.rows ≡ map static_of (operands es)
+
+  unfoldable pub HasTexts : p.Command → Type 0
+  HasTexts (p.command n offset (p.Simple es) rs) = AreTexts n es
+  HasTexts _ = Unit {0}
+
+  -- The numbers are the counts of a certificate that keeps all rules of the script, and that a run comes to each place of which a count is claimed
+  pub record Keeps (t : p.Items) (u : ℕ → ℕ) : Type 0 where
+    -- the table is that of the script
+    pub functions : (f : Text) → is_one_of (functions_of (script_entered t)) f ≡ is_one_of names f
+    pub texts : Each (λ (e : Entered). HasTexts e.command) (script_entered t)
+    -- they are counts, and no greater than those that are claimed
+    pub few : (i : ℕ) → u i ≤ 65535
+    pub below : (i a : ℕ) → claimed s.places i ≡ Some a → u i ≤ a
+    pub known : Facts
+    pub claims : Certificate
+    pub rules : flat_map (broken known claims) (script_bounds t) ≡ []
+    pub counts : (slot : Slot) (i a : ℕ) → index_of s.places.commands names slot ≡ Some i → claimed s.places i ≡ Some a → HasCount (u i) (facts (claims.claim slot))
+
+  abbrev pub Sight : Seen → Views → Type 0
+  Sight q known = See s.places.commands names q known
+
+  abbrev pub SightAfter : views.After → After → Type 0
+  SightAfter o known = SeeAfter s.places.commands names o known
+
+  -- what is added if these commands are entered where this is known
+  abbrev pub Adds : (views.After → List Entered) → After → Equations → Equations → Type 0
+  Adds entered known old new =
+      (t : p.Items) (u : ℕ → ℕ) (o : views.After) → Keeps t u → SightAfter o known → IsPart t (entered o) → Tallies s.places u old new
+
+  abbrev pub AddsFrom : (Seen → List Entered) → Views → Equations → Equations → Type 0
+  AddsFrom entered known old new =
+      (t : p.Items) (u : ℕ → ℕ) (q : Seen) → Keeps t u → Sight q known → IsPart t (entered q) → Tallies s.places u old new
+
+  -- what is left behind that
+  abbrev pub Leaves : (views.After → views.After) → After → After → Type 0
+  Leaves behind known left = (o : views.After) → SightAfter o known → SightAfter (behind o) left
+
+  abbrev pub LeavesFrom : (Seen → views.After) → Views → After → Type 0
+  LeavesFrom behind known left = (q : Seen) → Sight q known → SightAfter (behind q) left
+
+  -- the certificate keeps these rules
+  abbrev pub AreKept : (t : p.Items) (u : ℕ → ℕ) → Keeps t u → List Constraint → Type 0
+  AreKept t u k ks = Each (λ c. broken k.known k.claims c ≡ []) ks
+
+  -- what is added for what a command leaves by its status
+  abbrev pub AddsLeaves : ℕ → After → Equations → Equations → Type 0
+  AddsLeaves n known old new =
+      (t : p.Items) (u : ℕ → ℕ) (k : Keeps t u) (rule : FlowRule) (o : views.After) → SightAfter o known → AreKept t u k (leaves n rule o) → Tallies s.places u old new
+
+  -- what is added for a command of a kind, behind whose redirections this is known
+  abbrev pub AddsKind : entries.Around → ℕ → p.Kind → Views → Equations → Equations → Type 0
+  AddsKind y n kind known old new =
+      (t : p.Items) (u : ℕ → ℕ) (q : Seen) (k : Keeps t u) → Sight q known → IsPart t (kind_entered y n q kind)
+      → AreKept t u k (kind_bounds (functions_of (script_entered t)) y n q kind) → Tallies s.places u old new
+
+  -- what is added for a branch of the command n
+  abbrev pub AddsBranch : entries.Around → ℕ → p.Items → p.Items → Views → Equations → Equations → Type 0
+  AddsBranch y n condition body known old new =
+      (t : p.Items) (u : ℕ → ℕ) (q : Seen) (k : Keeps t u) → Sight q known
+      → IsPart t (entries.items_entered F6 y (views.Both q) condition) → IsPart t (entries.items_entered F6 y (views.Both (views.if_zero (entries.items_after (views.Both q) condition))) body)
+      → AreKept t u k (leaves n F6 (entries.items_after (views.Both (views.if_zero (entries.items_after (views.Both q) condition))) body)) → Tallies s.places u old new
+
+  -- what is added for a command of a kind
+  abbrev pub AddsCommand : entries.Around → ℕ → p.Kind → Views → Equations → Equations → Type 0
+  AddsCommand y n kind inside old new =
+      (offset : ℕ) (rs : p.Redirects) → Sight (views.at (Before n)) inside → HasTexts (p.command n offset kind rs) → AddsKind y n kind inside old new
+
+  -- Words
+
+  -- what is added for the commands in a piece of a word, and what is known behind it
+  pub record Passes (entered : Seen → List Entered) (gains : Gains) (known left : Views) (old new : Equations) : Type 0 where
+    pub adds : AddsFrom entered known old new
+    pub gained : Raised gains.args known left
+
+  -- a run of elements
+  pub record ElementsAt (t : p.Items) (u : ℕ → ℕ) (entered : Seen → List Entered) (left : Views) (old new : Equations) : Type 0 where
+    pub seen : Seen
+    pub sight : Sight seen left
+    pub part : IsPart t (entered seen)
+    pub tallies : Tallies s.places u old new
+
+  -- The words of elements: these before others, and what is known behind them
+  pub record PassesWords (es rest : p.Elements) (known left : Views) (old new : Equations) : Type 0 where
+    pub adds : (t : p.Items) (u : ℕ → ℕ) (q last : Seen) → Keeps t u → Sight q known → IsPart t (entries.elements_entered q last es)
+        → ElementsAt t u (λ r. entries.elements_entered r last rest) left old new
+    pub gained : (end : Views) → Raised (words_gains (operands_in rest)).args left end → Raised (words_gains (operands_in es)).args known end
+
+  -- what values and redirections gain
+  abbrev pub settled_gains : p.Elements → ℕ
+  settled_gains es = max (values_gains (assignments_in es)).args (redirections_gains es).args
+
+  -- The values and redirections of elements, which are expanded behind the words
+  pub record PassesValues (es rest : p.Elements) (known left : Views) (old new : Equations) : Type 0 where
+    pub adds : (t : p.Items) (u : ℕ → ℕ) (q last : Seen) → Keeps t u → Sight last known → IsPart t (entries.elements_entered q last es)
+        → ((r : Seen) × IsPart t (entries.elements_entered r last rest)) × Tallies s.places u old new
+    pub gained : (end : Views) → Raised (settled_gains rest) left end → Raised (settled_gains es) known end
+    pub kept : Raised 0 known left
+
+  -- Simple commands
+
+  -- what is known behind the words of a simple command, and behind its values and redirections
+  pub record IsBehind (n : ℕ) (es : p.Elements) (left : Views) : Type 0 where
+    pub words : Sight (behind_words es (views.at (Before n))) left
+    pub settled : (g : Gains) → g.args ≤ settled_gains es → Sight (views.gaining g (behind_words es (views.at (Before n)))) left
+
+  -- what is added for a simple command that goes on in a manner
+  abbrev pub AddsManner : entries.Around → ℕ → p.Elements → Views → Manner → Equations → Equations → Type 0
+  AddsManner y n es left m old new =
+      (t : p.Items) (u : ℕ → ℕ) (k : Keeps t u) → IsBehind n es left → AreKept t u k (simple_bounds y n es m) → Tallies s.places u old new
+
+  -- what is added for a simple command behind its words
+  abbrev pub AddsSimple : entries.Around → ℕ → p.Elements → Views → Equations → Equations → Type 0
+  AddsSimple y n es left old new =
+      AreTexts n es → (t : p.Items) (u : ℕ → ℕ) (k : Keeps t u) → IsBehind n es left
+      → AreKept t u k (simple_bounds y n es (manner (functions_of (script_entered t)) es)) → Tallies s.places u old new
+
+  -- the count of this function
+  abbrev pub AddsFunction : End → Text → Views → Change → Equations → Equations → Type 0
+  AddsFunction end name known change old new =
+      (u : ℕ → ℕ) → ((place : Count) → option_map (function_index s.places.commands end) (number_of names name) ≡ Some place.index → AreBounds s.places u place change known)
+      → Tallies s.places u old new
+
+  -- a run comes to this end of the function
+  pub record IsReached (end : End) (name : Text) : Type 0 where
+    pub index : ℕ
+    pub place : option_map (function_index s.places.commands end) (number_of names name) ≡ Some index
+    pub count : ℕ
+    pub counts : claimed s.places index ≡ Some count
+
+  -- the count behind a call of this function
+  abbrev pub AddsReturn : Count → End → Text → Views → Equations → Equations → Type 0
+  AddsReturn place end name known old new =
+      (u : ℕ → ℕ) → (IsReached end name → AreBounds s.places u place (Raise 0) known) → Tallies s.places u old new
+
+  -- what is added for the branches of the command n
+  abbrev pub AddsBranches : entries.Around → ℕ → p.Branches → Views → Equations → Equations → Type 0
+  AddsBranches y n bs known old new =
+      (t : p.Items) (u : ℕ → ℕ) (q : Seen) (k : Keeps t u) → Sight q known → IsPart t (entries.branches_entered y q bs) → AreKept t u k (branches_bounds n q bs)
+      → Tallies s.places u old new
+
+  abbrev pub AddsOtherwise : entries.Around → ℕ → p.Otherwise → Views → Equations → Equations → Type 0
+  AddsOtherwise y n o known old new =
+      (t : p.Items) (u : ℕ → ℕ) (q : Seen) (k : Keeps t u) → Sight q known → IsPart t (entries.otherwise_entered y q o) → AreKept t u k (otherwise_bounds n q o)
+      → Tallies s.places u old new
+
+  -- no certificate that keeps the rules has a greater count at a place
+  abbrev pub AreOver : p.Items → List ℕ → Type 0
+  AreOver t counts = (u : ℕ → ℕ) → Keeps t u → (i a : ℕ) → claimed s.places i ≡ Some a → u i ≤ worth counts i
+
+  -- what is added for a clause of the command n
+  abbrev pub AddsClause : entries.Around → ℕ → p.Items → ClauseEnd → Views → Equations → Equations → Type 0
+  AddsClause y n body end known old new =
+      (t : p.Items) (u : ℕ → ℕ) (q : Seen) (k : Keeps t u) → Sight q known → IsPart t (entries.items_entered F9 y (views.Both q) body)
+      → (end ≡ clause.Break → AreKept t u k (leaves n F9 (entries.items_after (views.Both q) body))) → Tallies s.places u old new
+
+  -- what is added for the clauses of the command n, whatever falls into them
+  abbrev pub AddsClauses : entries.Around → ℕ → p.Clauses → Views → Equations → Equations → Type 0
+  AddsClauses y n cs known old new =
+      (t : p.Items) (u : ℕ → ℕ) (q fallen : Seen) (k : Keeps t u) → Sight q known → IsPart t (entries.clauses_entered y q fallen cs) → AreKept t u k (clauses_bounds n q fallen cs)
+      → Tallies s.places u old new

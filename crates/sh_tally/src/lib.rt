@@ -1,0 +1,17 @@
+//! The counts of positional parameters in a script, as equations, and the greatest that solve them.
+#![tactic(auto)]
+
+mod bounds;
+mod commands;
+mod elements;
+mod kinds;
+pub mod laws;
+mod lists;
+mod places;
+mod simple;
+mod solved;
+mod views;
+mod words;
+
+pub use bounds::Tally;
+pub use places::{End, Part, Places};

@@ -1,0 +1,196 @@
+//! Of what is known somewhere, the places that bound the count of positional parameters (XCU 2.5.1).
+
+ghost use Rattle.std.specs.Prelude.{◌≡◌, ℕ, max, List, Some, IfSome};
+ghost use Rattle.sh_tree.specs.standard.program.Syntax.{Text};
+ghost use Rattle.sh_domain.specs.Entries.{ends, turns};
+ghost use Rattle.sh_domain.specs.Views as views;
+ghost use Rattle.sh_domain.specs.Views.{Both, Seen, Slot, after_command};
+ghost use Rattle.sh_tally.specs.Views.{Raised, RaisedView, See, SeeAfter, Sees, index_of};
+
+use crate::places::{Part, Places};
+use sh_counts::Count;
+use sh_tree::LoopKind;
+
+/// What is known at a place, and behind expansions after which there are at least so many
+/// parameters.
+#[derive(Clone, Copy, Debug, PartialEq, Eq)]
+pub struct View {
+    pub source: Count,
+    pub least: u16,
+}
+
+/// Two views of what is known somewhere at most: those with the least counts.
+#[derive(Clone, Copy, Debug, PartialEq, Eq)]
+pub struct Views {
+    pub first: Option<View>,
+    pub second: Option<View>,
+}
+
+/// What is known after a status of zero, and after another one.
+#[derive(Clone, Copy, Debug, PartialEq, Eq)]
+pub struct After {
+    pub zero: Views,
+    pub nonzero: Views,
+}
+
+impl View {
+    // Behind expansions after which there are at least so many parameters.
+    fn raised(self, least: u16) -> View
+        ensures source { result.source ≡ self.source }
+        ensures least { result.least ≡ max self.least least }
+    {
+        View {
+            source: self.source,
+            least: self.least.max(least),
+        }
+    }
+
+    // How many parameters it claims, if any run comes to its place: a hint.
+    fn args(self, places: &Places<'_>) -> Option<u16> {
+        let args = places.args(self.source)?;
+        Some(args.max(self.least))
+    }
+}
+
+// A view behind expansions after which there are at least so many parameters.
+#[tactic(auto, unfolding(crate::specs::Views::RaisedView))]
+fn raised(view: Option<View>, least: u16) -> Option<View>
+    ensures { RaisedView least view result }
+{
+    match view {
+        Some(view) => Some(view.raised(least)),
+        None => None,
+    }
+}
+
+// Whether a view claims less than another one: a hint.
+fn is_less(places: &Places<'_>, view: View, other: Option<View>) -> bool {
+    match other {
+        Some(other) => view.args(places) < other.args(places),
+        None => true,
+    }
+}
+
+impl Views {
+    /// No view.
+    pub const NONE: Views = Views {
+        first: None,
+        second: None,
+    };
+
+    /// What is known at a place.
+    #[tactic(auto, using(crate::proofs::ViewLemmas::at_sees))]
+    pub fn at(source: Count) -> Views
+        ensures { (commands : ℕ) (functions : List Text) (slot : Slot) → index_of commands functions slot ≡ Some source.index → See commands functions (views.at slot) result }
+    {
+        Views {
+            first: Some(View { source, least: 0 }),
+            second: None,
+        }
+    }
+
+    /// Behind expansions after which there are at least so many parameters.
+    pub fn raised(self, least: u16) -> Views
+        ensures { Raised least self result }
+    {
+        Views {
+            first: raised(self.first, least),
+            second: raised(self.second, least),
+        }
+    }
+
+    // With one view more, if any run comes to its place and it claims less than one of these.
+    fn with(self, places: &Places<'_>, view: Option<View>) -> Views
+        ensures { (commands : ℕ) (functions : List Text) (q : Seen) → See commands functions q self → IfSome view (Sees commands functions q) → See commands functions q result }
+    {
+        let Some(view) = view else {
+            return self;
+        };
+        if view.args(places).is_none() || self.first == Some(view) {
+            return self;
+        }
+        if is_less(places, view, self.first) {
+            return Views {
+                first: Some(view),
+                second: self.first,
+            };
+        }
+        if is_less(places, view, self.second) {
+            return Views {
+                first: self.first,
+                second: Some(view),
+            };
+        }
+        self
+    }
+
+    /// What both see.
+    pub fn and(self, places: &Places<'_>, other: Views) -> Views
+        ensures { (commands : ℕ) (functions : List Text) (q : Seen) → See commands functions q self → See commands functions q other → See commands functions q result }
+    {
+        Views::NONE
+            .with(places, self.first)
+            .with(places, self.second)
+            .with(places, other.first)
+            .with(places, other.second)
+    }
+}
+
+impl After {
+    /// Whatever the status is.
+    #[tactic(auto, unfolding(sh_domain::specs::Views::if_zero, sh_domain::specs::Views::if_nonzero))]
+    pub fn both(views: Views) -> After
+        ensures { (commands : ℕ) (functions : List Text) (q : Seen) → See commands functions q views → SeeAfter commands functions (Both q) result }
+    {
+        After {
+            zero: views,
+            nonzero: views,
+        }
+    }
+
+    /// After the command of a number.
+    pub fn command(number: u32) -> After
+        ensures { (commands : ℕ) (functions : List Text) → SeeAfter commands functions (after_command number) result }
+    {
+        After {
+            zero: Views::at(Part::Zero.of(number)),
+            nonzero: Views::at(Part::Nonzero.of(number)),
+        }
+    }
+
+    /// With the statuses exchanged, if it is negated.
+    pub fn swapped(self, is_negated: bool) -> After
+        ensures { (commands : ℕ) (functions : List Text) (o : views.After) → SeeAfter commands functions o self → SeeAfter commands functions (views.swapped is_negated o) result }
+    {
+        if is_negated {
+            After {
+                zero: self.nonzero,
+                nonzero: self.zero,
+            }
+        } else {
+            self
+        }
+    }
+
+    /// What is known where a loop takes its next turn, and where it ends, behind its condition.
+    #[tactic(auto, unfolding(sh_domain::specs::Entries::turns, sh_domain::specs::Entries::ends))]
+    pub fn turned(self, kind: LoopKind) -> After
+        ensures turns { (commands : ℕ) (functions : List Text) (o : views.After) → SeeAfter commands functions o self → See commands functions (turns kind o) result.zero }
+        ensures ends { (commands : ℕ) (functions : List Text) (o : views.After) → SeeAfter commands functions o self → See commands functions (ends kind o) result.nonzero }
+    {
+        match kind {
+            LoopKind::While => self,
+            LoopKind::Until => After {
+                zero: self.nonzero,
+                nonzero: self.zero,
+            },
+        }
+    }
+
+    /// What is known after any status.
+    pub fn in_any_case(self, places: &Places<'_>) -> Views
+        ensures { (commands : ℕ) (functions : List Text) (o : views.After) → SeeAfter commands functions o self → See commands functions (views.in_any_case o) result }
+    {
+        self.zero.and(places, self.nonzero)
+    }
+}
