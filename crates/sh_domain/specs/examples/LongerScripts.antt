@@ -73,8 +73,7 @@ script_43_sheet =
     let b = known (codes "IFS OPTIND PPID x y") (codes "f") 2 in
     record {
       commands = row a a a ∷ row a a a ∷ row a b Unreached ∷ row b b b ∷ row b b b ∷ row b b b ∷ row b b b ∷ row a a a ∷ [];
-      heads = (1, a) ∷
-          [];
+      heads = (1, a) ∷ [];
       functions = function (codes "f") b (dropping [] []) b b ∷ [];
     }
 
@@ -156,8 +155,7 @@ script_47_sheet =
       commands = row a b Unreached ∷ row Unreached Unreached Unreached ∷ row Unreached Unreached Unreached ∷ row Unreached Unreached Unreached
           ∷ row b b b ∷ row b b b ∷ row b b b ∷ [];
       heads = (5, b) ∷ [];
-      functions = function (codes "f") Unreached (dropping [] []) Unreached Unreached ∷
-          [];
+      functions = function (codes "f") Unreached (dropping [] []) Unreached Unreached ∷ [];
     }
 
 -- `f() { NL echo "$1" $# NL } NL : "$1" NL export OPTARG=1 | NL OPTARG="$1" NL echo "$x" "$x" NL
@@ -308,8 +306,7 @@ script_53_sheet =
       commands = row a b Unreached ∷ row Unreached Unreached Unreached ∷ row Unreached Unreached Unreached ∷ row b b b ∷ row b c d ∷ row b c c
           ∷ row c Unreached c ∷ row c c d ∷ row c d d ∷ row b b b ∷ [];
       heads = [];
-      functions = function (codes "f") Unreached (dropping [] []) Unreached
-          Unreached ∷ [];
+      functions = function (codes "f") Unreached (dropping [] []) Unreached Unreached ∷ [];
     }
 
 -- `! g() { case ${x%\z} in a|"$y") x=1 read y f | set -e; NL return 0; ! g "it's"; NL
@@ -431,8 +428,7 @@ script_58_sheet =
     record {
       commands = row a b Unreached ∷ row Unreached Unreached Unreached ∷ row Unreached Unreached Unreached ∷ row Unreached Unreached Unreached
           ∷ row Unreached Unreached Unreached ∷ row b b b ∷ row c c c ∷ row c d c ∷ row c Unreached Unreached ∷ row b a a ∷ row b g b ∷ [];
-      heads = (6, b)
-          ∷ [];
+      heads = (6, b) ∷ [];
       functions = function (codes "g") Unreached (dropping [] []) Unreached Unreached ∷ [];
     }
 
@@ -486,8 +482,7 @@ script_60_sheet =
     let d = known (codes "IFS OPTIND PPID x y") [] 2 in
     record {
       commands = row a b b ∷ row b c Unreached ∷ row b b b ∷ row b b b ∷ row b b b ∷ row b d b ∷ row b b b ∷ row c c c ∷ row c c c ∷ [];
-      heads
-          = [];
+      heads = [];
       functions = [];
     }
 
@@ -668,8 +663,7 @@ script_66_program =
     action.Assign false (plain (codes "1")))))))) (more_redirects (File (only (quoted 145 (codes "x")))) no_redirects)))))) (more_commands (simple 12
     156 (assignment (codes "x") (plain (codes "1")) (text (codes "f") no_elements))) no_commands))) (more_links link.OrElse (piece (simple 13 165
     (assignment (codes "x") (plain (codes "1")) no_elements))) no_links)) false (alone (simple 14 169 (text (codes "echo") (operand (only (Arithmetic
-    174 (Name 177 (codes "x")))) no_elements))) (lone (simple 15 181 (text (codes "echo") (operand (only (quoted 187 (codes "x")))
-    no_elements)))))))))
+    174 (Name 177 (codes "x")))) no_elements))) (lone (simple 15 181 (text (codes "echo") (operand (only (quoted 187 (codes "x"))) no_elements)))))))))
 
 abbrev pub script_66_sheet : Sheet
 script_66_sheet =
@@ -680,8 +674,7 @@ script_66_sheet =
       commands = row a b Unreached ∷ row c c c ∷ row c c c ∷ row b b b ∷ row b Unreached b ∷ row b b b ∷ row b b b ∷ row b b b ∷ row b c b ∷
           row c c c ∷ row c c c ∷ row b b b ∷ row b c c ∷ row b b b ∷ row b b b ∷ [];
       heads = (7, b) ∷ [];
-      functions = function (codes "f") c (dropping []
-          []) c c ∷ [];
+      functions = function (codes "f") c (dropping [] []) c c ∷ [];
     }
 
 pub record LongerScriptsAsExpected : Type 0 where
