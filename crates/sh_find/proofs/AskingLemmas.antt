@@ -1,15 +1,9 @@
 -- What is gathered of what the flow rules require, one thing after the other, and by a walk over a
 -- script.
-use Rattle.std.proofs.Common.{◌≡◌, ℕ, ◌<◌, ◌≤◌, nat_lt, eqb, Bool, true, false, ◌&&◌, ◌||◌, if◌then◌else◌, Option, Some, None, option_map, List, [], ◌∷◌, length, slice_get, unwrap_or, is_some, refl, sym, ap, ap₂, ◌∙◌, subst, arith, inl, inr, true≢false}
+use Rattle.std.proofs.Common.{◌≡◌, ℕ, ◌≤◌, Bool, true, false, ◌&&◌, ◌||◌, if◌then◌else◌, Option, Some, None, option_map, List, [], length, slice_get, unwrap_or, refl, sym, ap, ap₂, ◌∙◌, subst, arith}
 use Rattle.std.specs.Prelude.{option_and_then}
 use Rattle.std.proofs.Math.Path.{fun_ext}
-use Rattle.std.proofs.lemmas.Bool.{lt-ltb, le-ltb, eqb-true, false_from_ne_true}
-use Rattle.std.proofs.lemmas.Option.{slice_get_within, slice_get_cases}
 use Rattle.std.specs.List.{list_all}
-use Rattle.std.specs.Str.{bytes_eq}
-use Rattle.std.proofs.lemmas.Slice.Eq.{bytes_eq-Decides}
-use Rattle.sh_rows.specs.Numbers.{has_bit}
-use Rattle.sh_rows.specs.declared.bits.BitRow.{BitRow}
 use Rattle.sh_tree.specs.declared.limits.TheConstants.{MAX_COMMANDS, MAX_NESTING}
 use Rattle.sh_tree.specs.declared.tree.Script.{Script}
 use Rattle.sh_tree.specs.standard.program.Syntax.{Text}
@@ -21,15 +15,12 @@ use Rattle.sh_domain.specs.declared.certificate.Certificate as kept
 use Rattle.sh_domain.specs.declared.certificate.Entry.{Entry}
 use Rattle.sh_domain.specs.declared.certificate.Facts as value
 use Rattle.sh_domain.specs.declared.certificate.FunctionEntry.{FunctionEntry}
-use Rattle.sh_domain.specs.declared.knowledge.Assured.{Assured}
 use Rattle.sh_domain.specs.declared.knowledge.Knowledge.{Knowledge}
-use Rattle.sh_domain.specs.declared.rows.RowId.{RowId}
-use Rattle.sh_domain.specs.Certificates.{claim_of, drops_of, in_byte_order, names_at}
+use Rattle.sh_domain.specs.Certificates.{claim_of, drops_of, in_byte_order}
 use Rattle.sh_domain.specs.Entries.{Entered, script_entered}
 use Rattle.sh_domain.specs.Facts.{Facts, Claim, Unreached, Declared, within}
 use Rattle.sh_domain.specs.Faults.{are_among}
-use Rattle.sh_domain.specs.KeptRows.{KeptRows, holds_at, bits_of}
-use Rattle.sh_domain.specs.Knowledge.{AreNumbered, among, assured_facts, at_number, knowledge_facts}
+use Rattle.sh_domain.specs.Knowledge.{AreNumbered, among, knowledge_facts}
 use Rattle.sh_domain.specs.Names.{IsNumbering, number_of}
 use Rattle.sh_domain.specs.Operands.{Names, no_names}
 use Rattle.sh_domain.specs.Reading.{claim_fits}
@@ -38,12 +29,10 @@ use Rattle.sh_domain.specs.Slots.{entry_of}
 use Rattle.sh_domain.specs.Views as views
 use Rattle.sh_domain.specs.Views.{Slot}
 use Rattle.sh_domain.proofs.DifferLemmas.{read_is_numbered}
-use Rattle.sh_domain.proofs.KnowledgeLemmas.{in_row, number_is_name, stands_there, and_none}
-use Rattle.sh_domain.proofs.RowLemmas.{bits_at, no_bits}
 use Rattle.sh_domain.proofs.TotalLemmas.{read_has_few_commands, rows_length}
 use Rattle.sh_demands.proofs.TextLemmas.{has_texts, entered_have}
 use Rattle.sh_operands.specs.Numerals.{most}
-use Rattle.sh_find.specs.Facts as number
+use Rattle.sh_drafts.specs.Facts as number
 use Rattle.sh_rules.specs.declared.claims.Claims.{Claims}
 use Rattle.sh_rules.specs.Settings.{Setting, certificate, claimed_at}
 use Rattle.sh_rules.specs.Walked.{script_walked}
@@ -58,103 +47,21 @@ use Rattle.sh_rules.proofs.RuleLemmas.{walk_same}
 use Rattle.sh_rules.proofs.ScriptLemmas.{script_told}
 use Rattle.sh_rules.proofs.SlotLemmas.{entries, head_claim}
 use Rattle.sh_domain.specs.Admitted.{IsAdmitted, claims_in, functions_in}
-use Rattle.sh_find.specs.declared.place.Place.{Place}
-use Rattle.sh_find.specs.Gathered.{Gathered, fitting, fitting_place, is_at, is_number, next_of, bounded, counted, gathered, all_gathered}
-use Rattle.sh_find.specs.Gathering.{tested_at, tested_by, met, with_sets, gathering, and_true, or_false, none_passes}
-use Rattle.sh_find.specs.Numbers.{name_passes, by_number, numbers_in}
-use Rattle.sh_find.specs.Places.{place_of}
-use Rattle.sh_find.specs.declared.subject.Subject.{Subject}
-use Rattle.sh_find.specs.Stated.{asked_bounds, asking_by}
+use Rattle.sh_drafts.specs.declared.place.Place.{Place}
+use Rattle.sh_drafts.specs.Gathered.{Gathered, fitting, fitting_place, is_at, is_number, next_of, bounded, counted, gathered, all_gathered}
+use Rattle.sh_drafts.specs.Gathering.{tested_at, tested_by, met, with_sets, or_false, none_passes}
+use Rattle.sh_find.specs.Asked.{gathering, asking_by}
+use Rattle.sh_drafts.specs.Numbers.{name_passes, by_number, numbers_in}
+use Rattle.sh_drafts.specs.Places.{place_of}
+use Rattle.sh_drafts.specs.declared.subject.Subject.{Subject}
+use Rattle.sh_drafts.specs.Stated.{asked_bounds}
 use Rattle.sh_find.specs.Sweeps.{setting_by}
-use Rattle.sh_find.specs.Turns.{sheet_by}
-use Rattle.sh_find.specs.Working.{Sets, joined}
-use Rattle.sh_find.specs.Starts.{start_of}
-use Rattle.sh_find.proofs.NumberLemmas.{claim_known}
+use Rattle.sh_drafts.specs.Turns.{sheet_by}
+use Rattle.sh_drafts.specs.Working.{Sets, joined}
+use Rattle.sh_drafts.specs.Starts.{start_of}
+use Rattle.sh_drafts.proofs.NumberLemmas.{claim_known}
 use Rattle.sh_find.proofs.StatedLemmas.{asked_all, by_asked}
-use Rattle.sh_find.proofs.TogetherLemmas.{gathered_together}
-
--- Tests of names, by their numbers
-
-past : (names : List Text) (k : ℕ) → slice_get names k ≡ None → length names ≤ k
-past names k e = elim (slice_get_cases names k).1 [
-  | inl w ↦ absurd (true≢false (sym (ap is_some w.2) ∙ ap is_some e))
-  | inr w ↦ w.0
-]
-
-module _ (names : List Text) (h : AreNumbered names) where
-  numbered_test : (p : ℕ → Bool) (k : ℕ) → (p k && nat_lt k (length names)) ≡ name_passes (λ t. at_number p (number_of names t)) (slice_get names k)
-  unfolding name_passes at_number
-  numbered_test p k = go (slice_get names k) refl
-    where
-      go : (o : Option Text) → slice_get names k ≡ o → (p k && nat_lt k (length names)) ≡ name_passes (λ t. at_number p (number_of names t)) o
-      go None e = ap (λ b. p k && b) (le-ltb k (length names) (past names k e)) ∙ and_none (p k)
-      go (Some t) e = ap (λ b. p k && b) (lt-ltb k (length names) (slice_get_within names k t e)) ∙ and_true (p k) ∙ sym (ap (at_number p) (h.own k t e))
-
-  known_of : (v u f g : ℕ → Bool) (m n : ℕ) → v ≡ u → f ≡ g → m ≡ n → number.Known v f m ≡ number.Known u g n
-  known_of v u f g m n x y z = cc
-
-  pub assured_numbers : (s : Assured) (v f : ℕ → Bool) (a : ℕ) → ((k : ℕ) → v k ≡ (has_bit k s.vars.words && nat_lt k (length names)))
-      → ((k : ℕ) → f k ≡ (has_bit k s.functions.words && nat_lt k (length names))) → a ≡ s.args → number.Known v f a ≡ by_number names (assured_facts names s)
-  unfolding by_number
-  assured_numbers s v f a vars functions args =
-      known_of _ _ _ _ _ _ (fun_ext (λ k. vars k ∙ numbered_test (λ j. has_bit j s.vars.words) k)) (fun_ext (λ k. functions k ∙ numbered_test (λ j. has_bit j s.functions.words) k)) args
-
-  -- a name that is added
-
-  swapped : (a b : Bool) → (a || b) ≡ (b || (a || false))
-  swapped true true = refl
-  swapped true false = refl
-  swapped false b = sym (or_false b)
-
-  pub name_added : (name : Text) (n : ℕ) (old new : ℕ → Bool) → number_of names name ≡ Some n → ((k : ℕ) → new k ≡ (eqb k n || old k))
-      → (k : ℕ) → new k ≡ (old k || name_passes (is_one_of (name ∷ [])) (slice_get names k))
-  unfolding name_passes
-  name_added name n old new is added k = go (slice_get names k) refl
-    where
-      go : (o : Option Text) → slice_get names k ≡ o → new k ≡ (old k || name_passes (is_one_of (name ∷ [])) o)
-      go None e =
-          let other : eqb k n ≡ false = false_from_ne_true (eqb k n) (λ s. let same : k ≡ n = eqb-true k n s in true≢false (sym (ap is_some (stands_there names n name is)) ∙ ap (λ j. is_some (slice_get names j)) (sym same) ∙ ap is_some e)) in
-          added k ∙ ap (λ b. b || old k) other ∙ sym (or_false (old k))
-      go (Some t) e = added k ∙ ap (λ b. b || old k) (number_is_name names n k name t is (h.own k t e)) ∙ swapped (bytes_eq name t) (old k)
-
-  pub name_unknown : (name : Text) (old : ℕ → Bool) → number_of names name ≡ None → (k : ℕ) → old k ≡ (old k || name_passes (is_one_of (name ∷ [])) (slice_get names k))
-  unfolding name_passes
-  name_unknown name old is k = go (slice_get names k) refl
-    where
-      go : (o : Option Text) → slice_get names k ≡ o → old k ≡ (old k || name_passes (is_one_of (name ∷ [])) o)
-      go None e = sym (or_false (old k))
-      go (Some t) e =
-          let other : bytes_eq name t ≡ false = false_from_ne_true (bytes_eq name t) (λ s. let same : name ≡ t = (bytes_eq-Decides name t).0 s in true≢false (sym (ap is_some (h.own k t e)) ∙ ap (λ u. is_some (number_of names u)) (sym same) ∙ ap is_some is)) in
-          sym (ap (λ b. old k || (b || false)) other ∙ or_false (old k))
-
-  -- a row that is added
-
-  row_test : (rows : KeptRows) (id : RowId) → ((k : ℕ) → length names ≤ k → holds_at rows.rows id.index k ≡ false)
-      → (k : ℕ) → holds_at rows.rows id.index k ≡ name_passes (is_one_of (names_at (in_byte_order names) rows id)) (slice_get names k)
-  unfolding name_passes at_number
-  row_test rows id none k = go (slice_get names k) refl
-    where
-      go : (o : Option Text) → slice_get names k ≡ o → holds_at rows.rows id.index k ≡ name_passes (is_one_of (names_at (in_byte_order names) rows id)) o
-      go None e = none k (past names k e)
-      go (Some t) e = sym (in_row names h rows id t ∙ ap (at_number (λ j. holds_at rows.rows id.index j)) (h.own k t e))
-
-  or_swapped : (a b : Bool) → (a || b) ≡ (b || a)
-  or_swapped true true = refl
-  or_swapped true false = refl
-  or_swapped false b = sym (or_false b)
-
-  pub row_added : (rows : KeptRows) (id : RowId) (row : BitRow) (old new : ℕ → Bool) → slice_get rows.rows id.index ≡ Some row → row.count ≡ rows.count → rows.count ≡ length names
-      → ((k : ℕ) → new k ≡ (holds_at rows.rows id.index k || old k)) → (k : ℕ) → new k ≡ (old k || name_passes (is_one_of (names_at (in_byte_order names) rows id)) (slice_get names k))
-  row_added rows id row old new is counted sized added k =
-      added k ∙ or_swapped (holds_at rows.rows id.index k) (old k) ∙ ap (λ b. old k || b) (row_test rows id none k)
-    where
-      none : (j : ℕ) → length names ≤ j → holds_at rows.rows id.index j ≡ false
-      none j far = bits_at rows.rows id.index row is j ∙ false_from_ne_true (bits_of row j) (λ s. let low : j < row.count = row.below j s in absurd (omega (arith, low, counted, sized, far)))
-
-  pub row_unknown : (rows : KeptRows) (id : RowId) (old : ℕ → Bool) → slice_get rows.rows id.index ≡ None
-      → (k : ℕ) → old k ≡ (old k || name_passes (is_one_of (names_at (in_byte_order names) rows id)) (slice_get names k))
-  row_unknown rows id old is k =
-      sym (ap (λ b. old k || b) (sym (row_test rows id (λ j far. no_bits rows.rows id.index is j) k) ∙ no_bits rows.rows id.index is k) ∙ or_false (old k))
+use Rattle.sh_drafts.proofs.TogetherLemmas.{gathered_together}
 
 -- One thing more
 

@@ -1,6 +1,6 @@
 -- Where a command is entered, a certificate that keeps the rules claims no more than is known
 -- there.
-use Rattle.std.proofs.Common.{◌≡◌, ℕ, ◌-◌, Option, Some, None, List, [], ◌∷◌, ◌++◌, length, nat_lt, Bool, true, false, if◌then◌else◌, sym, ap, ◌∙◌, subst, true≢false, is_some, option_map, unwrap_or, refl, IfSome}
+use Rattle.std.proofs.Common.{◌≡◌, ℕ, ◌-◌, Option, Some, None, List, [], ◌∷◌, ◌++◌, nat_lt, Bool, true, false, if◌then◌else◌, sym, ap, ◌∙◌, subst, true≢false, is_some, option_map, unwrap_or, refl, IfSome, ◌+◌}
 use Rattle.sh_tree.specs.declared.tree.Command.{Command, out-Command}
 use Rattle.sh_tree.specs.standard.program.Syntax as p
 use Rattle.sh_tree.specs.standard.program.Syntax.{Text}
@@ -24,27 +24,24 @@ use Rattle.sh_domain.specs.Views.{AfterNonzero, AfterZero, Certificate, ReturnsN
 use Rattle.sh_domain.proofs.EachLemmas.{each_parts}
 use Rattle.sh_domain.proofs.MonotoneLemmas.{told_none}
 use Rattle.sh_domain.proofs.OrderLemmas.{meet_greatest, within_nowhere, within_test, within_through}
-use Rattle.sh_find.specs.Facts as number
-use Rattle.sh_find.specs.Kept.{IsNamed}
 use Rattle.sh_rules.specs.Meaning.{sees}
 use Rattle.sh_rules.proofs.AboveLemmas.{among_grows}
 use Rattle.sh_domain.specs.Admitted.{IsAdmitted, claims_in, functions_in}
-use Rattle.sh_find.specs.declared.place.Part.TheVariants.{Before}
-use Rattle.sh_find.specs.declared.place.Place.{Place}
-use Rattle.sh_find.specs.declared.spot.Spot.{Spot}
-use Rattle.sh_find.specs.declared.subject.Subject.{Subject}
-use Rattle.sh_find.specs.Gathered.{fitting, fitting_place}
-use Rattle.sh_find.specs.Numbers.{by_name, by_number}
-use Rattle.sh_find.specs.Places.{at, claim_there, place_of}
-use Rattle.sh_find.specs.Spots.{place_at}
-use Rattle.sh_find.specs.Stated.{is_asked, is_free}
-use Rattle.sh_find.specs.Sweeps.{IsCommand, IsPart, Keeps, Knows}
-use Rattle.sh_find.specs.Starts.{start_of}
-use Rattle.sh_find.proofs.GatherLemmas.{claim_among, number_named, within_among}
+use Rattle.sh_drafts.specs.declared.place.Part.TheVariants.{Before}
+use Rattle.sh_drafts.specs.declared.place.Place.{Place}
+use Rattle.sh_drafts.specs.declared.spot.Spot.{Spot}
+use Rattle.sh_drafts.specs.declared.subject.Subject.{Subject}
+use Rattle.sh_drafts.specs.Gathered.{fitting, fitting_place}
+use Rattle.sh_drafts.specs.Places.{at, claim_there, place_of}
+use Rattle.sh_drafts.specs.Spots.{place_at}
+use Rattle.sh_drafts.specs.Stated.{is_asked, is_free}
+use Rattle.sh_find.specs.Sweeps.{IsCommand, IsPart, Knows}
+use Rattle.sh_drafts.specs.Ready.{Keeps}
+use Rattle.sh_drafts.specs.Starts.{start_of}
+use Rattle.sh_drafts.proofs.GatherLemmas.{claim_among}
 use Rattle.sh_find.proofs.MetLemmas.{KeepsAsked, keeps_here}
-use Rattle.sh_find.proofs.NumberLemmas.{back}
 use Rattle.sh_find.proofs.PlacedLemmas.{own_of}
-use Rattle.sh_find.proofs.SheetLemmas.{placed}
+use Rattle.sh_drafts.proofs.SheetLemmas.{placed}
 
 -- By the rules of a command
 
@@ -166,15 +163,6 @@ fits_place o p q some fits = go (nat_lt q.index 65536) (sym some ∙ fits)
     go : (b : Bool) → Some p ≡ option_map (at q.part) (if b then Some q.index else None) → q ≡ p
     go true e = sym (ap (λ r. unwrap_or r q) e)
     go false e = absurd (true≢false (ap is_some e))
-
-pub named_at : (d : Facts) (names : List Text) (f : Facts) (g : number.Facts) → g ≡ by_number names f → IsNamed (length names) g
-named_at d names f g is = subst (IsNamed (length names)) (sym is) (number_named names [] d f)
-
-pub within_place : (names : List Text) (other : Sheet) (p q : Place) (f : Facts) (g : number.Facts) → claim_fits names (claim_there other (Some p)) ≡ true → q ≡ p → g ≡ by_number names f
-    → IsWithin (facts (claim_there other (Some q))) f → IsWithin (facts (claim_there other (Some p))) (by_name names g)
-within_place names other p q f g fit same is w =
-    subst (λ h. IsWithin (facts (claim_there other (Some p))) h) (sym (ap (by_name names) is ∙ back names f))
-    (within_among names (claim_there other (Some p)) f fit (subst (λ r. IsWithin (facts (claim_there other (Some r))) f) same w))
 
 -- a place that the rules speak of, if it is there
 pub spot_place : (functions : List Text) (slot : Slot) (spot : Spot) → Some (place_at spot) ≡ place_of functions slot → (r : Option Place) → r ≡ fitting_place (place_at spot) → IfSome r (λ p. Some p ≡ place_of functions slot)

@@ -40,25 +40,25 @@ use Rattle.sh_tally.specs.Counts.{HasAtMost}
 use Rattle.sh_tally.specs.Views.{end_place, function_index, index_of, part_place}
 use Rattle.sh_tally.specs.Walks as tally
 use Rattle.sh_tally.specs.Walks.{AreOver, HasCount, HasTexts}
-use Rattle.sh_find.specs.declared.place.Part.{Part}
-use Rattle.sh_find.specs.declared.place.Part.TheVariants as part
-use Rattle.sh_find.specs.declared.place.Place.{Place}
-use Rattle.sh_find.specs.declared.subject.Subject.{Subject}
+use Rattle.sh_drafts.specs.declared.place.Part.{Part}
+use Rattle.sh_drafts.specs.declared.place.Part.TheVariants as part
+use Rattle.sh_drafts.specs.declared.place.Place.{Place}
+use Rattle.sh_drafts.specs.declared.subject.Subject.{Subject}
 use Rattle.sh_find.specs.Counts.{AreClaimed, AreOverAll, args_at, args_of, count_place, index_by, part_by, ranked_place}
-use Rattle.sh_find.specs.Facts as number
-use Rattle.sh_find.specs.Kept.{IsNamed, fact_of}
-use Rattle.sh_find.specs.Numbers.{by_name, named}
-use Rattle.sh_find.specs.Places.{at, claim_there, kept_at, place_of}
-use Rattle.sh_find.specs.Ranks.{IsNumbered, most}
-use Rattle.sh_find.specs.Stated.{asked_bounds}
-use Rattle.sh_find.specs.Starts.{start_of}
-use Rattle.sh_find.specs.Sweeps.{IsReady, Keeps}
-use Rattle.sh_find.specs.Turns.{sheet_by}
-use Rattle.sh_find.specs.Working.{claims}
+use Rattle.sh_drafts.specs.Facts as number
+use Rattle.sh_drafts.specs.Kept.{IsNamed, fact_of}
+use Rattle.sh_drafts.specs.Numbers.{by_name, named}
+use Rattle.sh_drafts.specs.Places.{at, claim_there, kept_at, place_of}
+use Rattle.sh_drafts.specs.Ranks.{IsNumbered, most}
+use Rattle.sh_drafts.specs.Stated.{asked_bounds}
+use Rattle.sh_drafts.specs.Starts.{start_of}
+use Rattle.sh_drafts.specs.Ready.{IsReady, Keeps}
+use Rattle.sh_drafts.specs.Turns.{sheet_by}
+use Rattle.sh_drafts.specs.Working.{claims}
 use Rattle.sh_find.proofs.AskingLemmas.{commands_numbered}
-use Rattle.sh_find.proofs.SheetLemmas.{claimed, placed}
+use Rattle.sh_drafts.proofs.SheetLemmas.{claimed, placed}
 use Rattle.sh_find.proofs.StatedLemmas.{all_asked}
-use Rattle.sh_find.proofs.SweepLemmas.{names_numbered}
+use Rattle.sh_drafts.proofs.ReadyLemmas.{names_numbered}
 
 -- The places of counts
 

@@ -1,10 +1,9 @@
 -- If nothing is lowered at a place and a function, each constraint is kept that requires something
 -- there.
-use Rattle.std.proofs.Common.{◌≡◌, ℕ, ◌≤◌, Bool, true, false, if◌then◌else◌, Option, Some, None, option_map, List, [], ◌∷◌, length, slice_get, unwrap_or, is_some, refl, sym, ap, ◌∙◌, subst, arith, inl, inr, true≢false}
+use Rattle.std.proofs.Common.{◌≡◌, ℕ, ◌≤◌, Bool, true, false, if◌then◌else◌, Option, Some, None, option_map, List, [], ◌∷◌, length, slice_get, unwrap_or, is_some, refl, sym, ap, ◌∙◌, subst, inl, inr, true≢false}
 use Rattle.std.specs.List.{list_all}
 use Rattle.std.specs.Prelude.{filter, not}
 use Rattle.std.proofs.lemmas.Bool.{and_parts, or_cases, or_left, or_right, eqb-true}
-use Rattle.std.proofs.lemmas.Option.{slice_get-get_or}
 use Rattle.sh_tree.specs.declared.limits.TheConstants.{MAX_NAMES}
 use Rattle.sh_tree.specs.standard.language.Bytes.{is_name}
 use Rattle.sh_tree.specs.declared.tree.Script.{Script}
@@ -33,52 +32,41 @@ use Rattle.sh_domain.specs.Views.{Certificate, Slot, Before, Loss, OfNames, OfFu
 use Rattle.sh_domain.proofs.KnowledgeLemmas.{has_number, stands_there}
 use Rattle.sh_domain.proofs.OrderLemmas.{within_through, within_nowhere, within_test, among_test, among_all, known_within}
 use Rattle.sh_domain.specs.Admitted.{IsAdmitted, claims_in, functions_in}
-use Rattle.sh_find.specs.Facts as number
-use Rattle.sh_find.specs.Kept.{fact_of, IsNamed}
-use Rattle.sh_find.specs.Ranks.{IsNumbered}
-use Rattle.sh_find.specs.Stated.{asked_bounds, is_asked}
-use Rattle.sh_find.proofs.FactLemmas as order
+use Rattle.sh_drafts.specs.Facts as number
+use Rattle.sh_drafts.specs.Kept.{fact_of}
+use Rattle.sh_drafts.specs.Ranks.{IsNumbered}
+use Rattle.sh_drafts.specs.Stated.{asked_bounds, is_asked}
+use Rattle.sh_drafts.proofs.FactLemmas as order
 use Rattle.sh_find.specs.declared.gather.Gather.{Gather}
-use Rattle.sh_find.specs.declared.gather.Target.{Target}
-use Rattle.sh_find.specs.declared.place.Place.{Place}
-use Rattle.sh_find.specs.Gathered.{Gathered, is_at, is_number, bounded, counted, gathered, all_gathered}
-use Rattle.sh_find.specs.Functions.{ClaimsNames, KnowsNames, LosesNames, BoundsNames}
-use Rattle.sh_find.specs.Idle.{IsIdle}
+use Rattle.sh_drafts.specs.declared.target.Target.{Target}
+use Rattle.sh_drafts.specs.declared.place.Place.{Place}
+use Rattle.sh_drafts.specs.Gathered.{Gathered, is_at, is_number, bounded, counted, gathered, all_gathered}
+use Rattle.sh_drafts.specs.Functions.{ClaimsNames, KnowsNames, LosesNames, BoundsNames}
+use Rattle.sh_drafts.specs.Idle.{IsIdle}
 use Rattle.sh_find.specs.Next.{stands_at, IsKeptAt}
-use Rattle.sh_find.specs.Numbers.{name_passes, by_number, by_name, named, is_dropped, numbers_in}
-use Rattle.sh_find.specs.Places.{same, place_of, kept_at, drops_at, claim_there, drops_there}
+use Rattle.sh_drafts.specs.Numbers.{name_passes, by_number, by_name, named, is_dropped, numbers_in}
+use Rattle.sh_drafts.specs.Places.{same, place_of, kept_at, drops_at, claim_there, drops_there}
 use Rattle.sh_find.specs.There.{HasPlace, HasDrops, AsksThere}
-use Rattle.sh_find.specs.Turns.{AreNumbers, IsNew, gathered_of, sheet_by}
-use Rattle.sh_find.specs.Working.{Sets, sets_of, names_of, joined, claims, dropped, AreWithin, AreBelow, IsFine, IsWorking}
-use Rattle.sh_find.specs.Writable.{IsWritten, HasWritable}
-use Rattle.sh_find.proofs.FunctionLemmas.{rules_know_names}
-use Rattle.sh_find.proofs.GatherLemmas.{among_less, place_stays, function_stays, numbered_only}
-use Rattle.sh_find.proofs.GreatestLemmas.{numbered}
-use Rattle.sh_find.proofs.KeptLemmas.{place_same}
+use Rattle.sh_drafts.specs.Turns.{AreNumbers, sheet_by}
+use Rattle.sh_find.specs.Asked.{IsNew, gathered_of}
+use Rattle.sh_drafts.specs.Working.{Sets, sets_of, names_of, joined, claims, dropped, AreWithin, AreBelow, IsFine, IsWorking}
+use Rattle.sh_drafts.specs.Writable.{IsWritten, HasWritable}
+use Rattle.sh_drafts.proofs.FunctionLemmas.{rules_know_names}
+use Rattle.sh_drafts.proofs.GatherLemmas.{among_less, place_stays, function_stays, numbered_only}
+use Rattle.sh_drafts.proofs.ReadyLemmas.{numbered}
+use Rattle.sh_drafts.proofs.KeptLemmas.{place_same}
 use Rattle.sh_find.proofs.LostLemmas.{all_lost, asked_passes, filter_all, loss_passes}
-use Rattle.sh_find.proofs.NumberLemmas.{back}
-use Rattle.sh_find.proofs.SheetLemmas.{placed, drops_placed, claimed, drops_vars, drops_functions}
+use Rattle.sh_drafts.proofs.NumberLemmas.{back}
+use Rattle.sh_drafts.proofs.SheetLemmas.{placed, drops_placed, claimed, drops_vars, drops_functions}
 use Rattle.sh_find.proofs.ThereLemmas.{rules_ask_there}
 use Rattle.sh_find.proofs.TurnLemmas.{new_numbers}
 use Rattle.sh_find.proofs.StatedLemmas.{all_passing, each_passing}
 
 -- Names that may be written
 
-abbrev no_sets : Sets
-no_sets = record { vars = λ k. false; functions = λ k. false }
-
 module _ (names : List Text) where
   none_written : IsWritten names no_sets
   none_written = record { vars = λ k t is e. absurd (true≢false (sym e)); functions = λ k t is e. absurd (true≢false (sym e)) }
-
-  none_below : AreBelow (length names) no_sets
-  none_below = record { vars = λ k e. absurd (true≢false (sym e)); functions = λ k e. absurd (true≢false (sym e)) }
-
-  pub written_within : (s may : Sets) → length names ≤ MAX_NAMES → IsWritten names s → AreBelow (length names) s → HasWritable names MAX_NAMES may → AreWithin s may
-  written_within s may few w below all = record {
-    vars = λ k e. let l = below.vars k e in let is = slice_get-get_or names k [] l in all.vars k _ (omega (arith, l, few)) is (w.vars k _ is e);
-    functions = λ k e. let l = below.functions k e in let is = slice_get-get_or names k [] l in all.functions k _ (omega (arith, l, few)) is (w.functions k _ is e);
-  }
 
   joined_written : (s z : Sets) → IsWritten names s → IsWritten names z → IsWritten names (joined s z)
   joined_written s z a b = record {
@@ -105,11 +93,6 @@ module _ (names : List Text) where
   met_below (number.Known v f n) number.NotReached a b = a
   met_below (number.Known v f n) (number.Known w g m) a b = record { vars = λ k e. a.vars k (and_parts (v k) (w k) e).0; functions = λ k e. a.functions k (and_parts (f k) (g k) e).0 }
 
-  pub named_below : (f : number.Facts) → IsNamed (length names) f → AreBelow (length names) (names_of f)
-  unfolding names_of IsNamed
-  named_below number.NotReached h = none_below
-  named_below (number.Known v f n) h = record { vars = h.vars; functions = h.functions }
-
   -- What a certificate claims, and has a function drop, is such
 
   fine_written : (rows : KeptRows) (f : value.Facts) → IsFine names rows f → IsWritten names (names_of (fact_of rows.rows f))
@@ -121,7 +104,7 @@ module _ (names : List Text) where
 
   fine_below : (rows : KeptRows) (f : value.Facts) → IsFine names rows f → AreBelow (length names) (names_of (fact_of rows.rows f))
   unfolding fact_of names_of IsNumbered
-  fine_below rows value_kind.NotReached fine = none_below
+  fine_below rows value_kind.NotReached fine = none_below names
   fine_below rows (value_kind.Known v f a) fine = let h = fine.numbered in record { vars = h.vars; functions = h.functions }
 
   module _ (loops : List Bool) (m : ℕ) (c : kept.Certificate) (w : IsWorking names loops m c) where

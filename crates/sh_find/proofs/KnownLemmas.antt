@@ -30,9 +30,10 @@ use Rattle.sh_rules.specs.Visits.{command_by}
 use Rattle.sh_rules.specs.Walks as walks
 use Rattle.sh_rules.specs.Walks.{behind_in, facts_in, item_left, setting}
 use Rattle.sh_rules.proofs.LedLemmas.{Follows, item_stands, next_stands, pipeline_stands, started_led}
-use Rattle.sh_find.specs.declared.subject.Subject.{Subject}
-use Rattle.sh_find.specs.Stated.{asking_by}
-use Rattle.sh_find.specs.Sweeps.{ArePassed, IsOver, IsPassed, Knows, KnowsBehind, known_behind, setting_by}
+use Rattle.sh_drafts.specs.declared.subject.Subject.{Subject}
+use Rattle.sh_find.specs.Asked.{asking_by}
+use Rattle.sh_find.specs.Sweeps.{ArePassed, IsPassed, Knows, KnowsBehind, known_behind, setting_by}
+use Rattle.sh_drafts.specs.Ready.{IsOver}
 use Rattle.sh_find.proofs.SweepLemmas.{behind_of, knows_follow, stands_of}
 
 -- By what the flow rules go by

@@ -30,18 +30,19 @@ use Rattle.sh_rules.proofs.PrefixLemmas.{prefixes_are_numbered, table_defines}
 use Rattle.sh_rules.proofs.RuleLemmas.{visits_do_asked}
 use Rattle.sh_rules.proofs.ScriptLemmas.{script_asks}
 use Rattle.sh_domain.specs.Admitted.{IsAdmitted, claims_in, functions_in}
-use Rattle.sh_find.specs.declared.subject.Subject.{Subject}
-use Rattle.sh_find.specs.Gathered.{Gathered}
-use Rattle.sh_find.specs.Gathering.{gathering}
-use Rattle.sh_find.specs.Places.{place_of}
-use Rattle.sh_find.specs.Sweeps.{IsOver, IsPart, Keeps, Knows, setting_by}
-use Rattle.sh_find.specs.Stated.{asked_bounds, asking_by, is_asked, is_asked_of, is_free}
-use Rattle.sh_find.specs.Turns.{AreNumbers, IsQuiet, Stands}
-use Rattle.sh_find.specs.Starts.{start_of}
+use Rattle.sh_drafts.specs.declared.subject.Subject.{Subject}
+use Rattle.sh_drafts.specs.Gathered.{Gathered}
+use Rattle.sh_find.specs.Asked.{gathering, asking_by, is_asked_of}
+use Rattle.sh_drafts.specs.Places.{place_of}
+use Rattle.sh_drafts.specs.Ready.{IsOver, Keeps}
+use Rattle.sh_find.specs.Sweeps.{IsPart, Knows, setting_by}
+use Rattle.sh_drafts.specs.Stated.{asked_bounds, is_asked, is_free}
+use Rattle.sh_drafts.specs.Turns.{AreNumbers, IsQuiet, Stands}
+use Rattle.sh_drafts.specs.Starts.{start_of}
 use Rattle.sh_find.proofs.AskingLemmas.{by_constraints, commands_numbered, few_commands}
-use Rattle.sh_find.proofs.GatherLemmas.{claim_among, drop_numbered, drop_stands, place_numbered, place_stands}
-use Rattle.sh_find.proofs.GreatestLemmas.{numbered}
-use Rattle.sh_find.proofs.SheetLemmas.{placed}
+use Rattle.sh_drafts.proofs.GatherLemmas.{claim_among, drop_numbered, drop_stands, place_numbered, place_stands}
+use Rattle.sh_drafts.proofs.ReadyLemmas.{numbered}
+use Rattle.sh_drafts.proofs.SheetLemmas.{placed}
 use Rattle.sh_find.proofs.StatedLemmas.{Left, asked_allowed, by_asked, each_if_passing, left_asks, not_true}
 use Rattle.sh_find.proofs.TurnLemmas.{bounded_quiet}
 

@@ -22,22 +22,22 @@ use Rattle.sh_domain.specs.Reading.{AreLoops}
 use Rattle.sh_domain.specs.Rules.{Constraint, Within, Counted, script_bounds}
 use Rattle.sh_domain.specs.Views.{Certificate, view_facts, lost}
 use Rattle.sh_domain.proofs.EachLemmas.{each_parts}
-use Rattle.sh_find.specs.Kept.{fact_of}
+use Rattle.sh_drafts.specs.Kept.{fact_of}
 use Rattle.sh_domain.specs.Admitted.{IsAdmitted, functions_in}
 use Rattle.sh_find.specs.declared.gather.Gather.{Gather}
-use Rattle.sh_find.specs.declared.gather.Target.{Target}
-use Rattle.sh_find.specs.declared.place.Place.{Place}
-use Rattle.sh_find.specs.Gathered.{Gathered, all_gathered, bounded, counted, fitting, fitting_place, gathered, is_at, is_number, next_of}
-use Rattle.sh_find.specs.Gathering.{and_true}
+use Rattle.sh_drafts.specs.declared.target.Target.{Target}
+use Rattle.sh_drafts.specs.declared.place.Place.{Place}
+use Rattle.sh_drafts.specs.Gathered.{Gathered, all_gathered, bounded, counted, fitting, fitting_place, gathered, is_at, is_number, next_of}
+use Rattle.sh_drafts.specs.Gathering.{and_true}
 use Rattle.sh_find.specs.Next.{BrokenAt, IsKeptAt, stands_at}
-use Rattle.sh_find.specs.Places.{place_of, drops_at, kept_at, is_of_command, is_of_function}
-use Rattle.sh_find.specs.Stated.{asked_bounds, is_asked}
+use Rattle.sh_drafts.specs.Places.{place_of, drops_at, kept_at, is_of_command, is_of_function}
+use Rattle.sh_drafts.specs.Stated.{asked_bounds, is_asked}
 use Rattle.sh_find.specs.There.{AsksThere}
-use Rattle.sh_find.specs.Turns.{gathered_of, IsNew}
-use Rattle.sh_find.specs.Working.{IsWorking, claims, dropped, sets_of}
+use Rattle.sh_find.specs.Asked.{gathered_of, IsNew}
+use Rattle.sh_drafts.specs.Working.{IsWorking, claims, dropped, sets_of}
 use Rattle.sh_find.proofs.AskingLemmas.{few_commands}
 use Rattle.sh_find.proofs.GreatestLemmas as greatest
-use Rattle.sh_find.proofs.KeptLemmas.{command_needs, drops_within, function_needs, kept_head}
+use Rattle.sh_drafts.proofs.KeptLemmas.{command_needs, drops_within, function_needs, kept_head}
 use Rattle.sh_find.proofs.StatedLemmas.{each_passing}
 use Rattle.sh_find.proofs.ThereLemmas.{rules_ask_there}
 

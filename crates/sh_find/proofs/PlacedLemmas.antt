@@ -37,10 +37,11 @@ use Rattle.sh_rules.proofs.AboveLemmas.{stays_above}
 use Rattle.sh_rules.proofs.LedLemmas.{any_led, falls_led, link_led}
 use Rattle.sh_rules.proofs.WalkLemmas.{long_parts}
 use Rattle.sh_domain.specs.Admitted.{claims_in}
-use Rattle.sh_find.specs.declared.subject.Subject.{Subject}
-use Rattle.sh_find.specs.Gathering.{gathering}
-use Rattle.sh_find.specs.Sweeps.{AreBranches, AreClauses, AreItems, AreLinks, AreParts, ArePassed, IsAndOr, IsCommand, IsIn, IsInside, IsList, IsOver, IsPart, IsPassed, IsPipe, Knows, KnowsBehind, known_behind, setting_by}
-use Rattle.sh_find.specs.Starts.{start_of}
+use Rattle.sh_drafts.specs.declared.subject.Subject.{Subject}
+use Rattle.sh_find.specs.Asked.{gathering}
+use Rattle.sh_find.specs.Sweeps.{AreBranches, AreClauses, AreItems, AreLinks, AreParts, ArePassed, IsAndOr, IsCommand, IsIn, IsInside, IsList, IsPart, IsPassed, IsPipe, Knows, KnowsBehind, known_behind, setting_by}
+use Rattle.sh_drafts.specs.Ready.{IsOver}
+use Rattle.sh_drafts.specs.Starts.{start_of}
 use Rattle.sh_find.proofs.SweepLemmas.{first_part, knows_follow, last_part, stands_of}
 
 module _ (s : Subject) where

@@ -19,8 +19,8 @@ use Rattle.sh_domain.specs.Views as views
 use Rattle.sh_domain.specs.Views.{Certificate, Slot, Seen, view_facts}
 use Rattle.sh_domain.proofs.EachLemmas.{each_weaker}
 use Rattle.sh_domain.proofs.OrderLemmas.{within_nowhere}
-use Rattle.sh_find.specs.Facts as number
-use Rattle.sh_find.specs.Kept.{IsNamed, seen_of}
+use Rattle.sh_drafts.specs.Facts as number
+use Rattle.sh_drafts.specs.Kept.{IsNamed, seen_of}
 use Rattle.sh_rules.specs.Above.{Allows, Ask, OfFunction, OfPlace, ask}
 use Rattle.sh_rules.specs.Asked.{ByConstraints}
 use Rattle.sh_rules.specs.Meaning.{knows, met_at}
@@ -28,23 +28,25 @@ use Rattle.sh_rules.specs.Settings.{Setting, certificate, claimed_at}
 use Rattle.sh_rules.specs.Visits.{command_by}
 use Rattle.sh_domain.specs.Admitted.{IsAdmitted, claims_in, functions_in}
 use Rattle.sh_find.specs.declared.gather.Gather.{Gather}
-use Rattle.sh_find.specs.declared.gather.Target.{Target}
-use Rattle.sh_find.specs.declared.place.Place.{Place}
+use Rattle.sh_drafts.specs.declared.target.Target.{Target}
+use Rattle.sh_drafts.specs.declared.place.Place.{Place}
 use Rattle.sh_find.specs.declared.sides.Sides.{Sides}
-use Rattle.sh_find.specs.declared.subject.Subject.{Subject}
-use Rattle.sh_find.specs.Gathered.{Gathered, bounded, counted, is_at}
-use Rattle.sh_find.specs.Numbers.{by_name, by_number}
-use Rattle.sh_find.specs.Places.{claim_there, is_stated_part, place_of}
+use Rattle.sh_drafts.specs.declared.subject.Subject.{Subject}
+use Rattle.sh_drafts.specs.Gathered.{Gathered, bounded, counted, is_at}
+use Rattle.sh_drafts.specs.Numbers.{by_name, by_number}
+use Rattle.sh_drafts.specs.Places.{claim_there, is_stated_part, place_of}
 use Rattle.sh_find.specs.Sides.{Sided, AreNumbersBeside, IsQuietBeside, StandsBeside, bounded_at, counted_of, first_of, second_of, known_at, sided_of, siding, with_beside}
-use Rattle.sh_find.specs.declared.sight.Sight.{Sight}
-use Rattle.sh_find.specs.Stated.{asking_by, is_asked_of, is_free}
-use Rattle.sh_find.specs.Sweeps.{IsOver, IsPart, Keeps, Knows, setting_by}
-use Rattle.sh_find.specs.Turns.{AreNumbers, IsNew, IsQuiet, Stands, gathered_of}
-use Rattle.sh_find.specs.Starts.{start_of}
-use Rattle.sh_find.proofs.GatherLemmas.{drop_numbered, drop_stands, place_numbered, place_stands}
+use Rattle.sh_drafts.specs.declared.sight.Sight.{Sight}
+use Rattle.sh_find.specs.Asked.{asking_by, is_asked_of, IsNew, gathered_of}
+use Rattle.sh_drafts.specs.Stated.{is_free}
+use Rattle.sh_drafts.specs.Ready.{IsOver, Keeps}
+use Rattle.sh_find.specs.Sweeps.{IsPart, Knows, setting_by}
+use Rattle.sh_drafts.specs.Turns.{AreNumbers, IsQuiet, Stands}
+use Rattle.sh_drafts.specs.Starts.{start_of}
+use Rattle.sh_drafts.proofs.GatherLemmas.{drop_numbered, drop_stands, place_numbered, place_stands}
 use Rattle.sh_find.proofs.MetLemmas.{names_numbered, named_claim, one_allows, one_asks}
-use Rattle.sh_find.proofs.NumberLemmas.{among_numbered, meet_numbered}
-use Rattle.sh_find.proofs.TogetherLemmas.{if_meet, meets_grouped, nothing_met}
+use Rattle.sh_drafts.proofs.NumberLemmas.{among_numbered, meet_numbered}
+use Rattle.sh_drafts.proofs.TogetherLemmas.{if_meet, meets_grouped, nothing_met}
 use Rattle.sh_find.proofs.StatedLemmas.{not_true}
 use Rattle.sh_find.proofs.TurnLemmas.{met_quiet, new_numbers, new_quiet, new_stands}
 

@@ -19,7 +19,8 @@ use Rattle.sh_rules.specs.Bounds.{fault}
 use Rattle.sh_rules.specs.Meaning.{knows}
 use Rattle.sh_rules.specs.Settings.{Setting, certificate}
 use Rattle.sh_rules.proofs.AboveLemmas.{Above, Judges, place_allowed, view_allowed, loss_allowed}
-use Rattle.sh_find.specs.Stated.{is_free, is_asked, is_asked_of, asked_bounds, asking_by}
+use Rattle.sh_drafts.specs.Stated.{is_free, is_asked, asked_bounds}
+use Rattle.sh_find.specs.Asked.{is_asked_of, asking_by}
 
 -- Of each element that passes
 

@@ -9,19 +9,20 @@ use Rattle.sh_domain.specs.Inclusions.{Each}
 use Rattle.sh_domain.specs.Rules.{Constraint, script_bounds}
 use Rattle.sh_domain.specs.Admitted.{IsAdmitted, claims_in, functions_in}
 use Rattle.sh_find.specs.declared.gather.Gather.{Gather}
-use Rattle.sh_find.specs.declared.gather.Target.{Target}
-use Rattle.sh_find.specs.declared.subject.Subject.{Subject}
-use Rattle.sh_find.specs.Gathered.{Gathered, all_gathered}
-use Rattle.sh_find.specs.Idle.{IsIdle}
+use Rattle.sh_drafts.specs.declared.target.Target.{Target}
+use Rattle.sh_drafts.specs.declared.subject.Subject.{Subject}
+use Rattle.sh_drafts.specs.Gathered.{Gathered, all_gathered}
+use Rattle.sh_drafts.specs.Idle.{IsIdle}
 use Rattle.sh_find.specs.Next.{IsBroken, IsKeptAt, IsOfScript}
-use Rattle.sh_find.specs.Stated.{asked_bounds}
-use Rattle.sh_find.specs.Turns.{IsNew, gathered_of, sheet_by}
-use Rattle.sh_find.specs.Writable.{sets_in}
-use Rattle.sh_find.specs.Starts.{start_of}
-use Rattle.sh_find.proofs.GatherLemmas.{function_stays, place_stays}
+use Rattle.sh_drafts.specs.Stated.{asked_bounds}
+use Rattle.sh_find.specs.Asked.{IsNew, gathered_of}
+use Rattle.sh_drafts.specs.Turns.{sheet_by}
+use Rattle.sh_drafts.specs.Writable.{sets_in}
+use Rattle.sh_drafts.specs.Starts.{start_of}
+use Rattle.sh_drafts.proofs.GatherLemmas.{function_stays, place_stays}
 use Rattle.sh_find.proofs.IdleLemmas.{idle_keeps}
 use Rattle.sh_find.proofs.NextLemmas.{none_broken}
-use Rattle.sh_find.proofs.StartLemmas.{start_knows}
+use Rattle.sh_drafts.proofs.StartLemmas.{start_knows}
 
 module _ (s : Subject) (c : kept.Certificate) (a : IsAdmitted s.script.now s.policy.now s.tree.now s.names.now) (variables : list_all is_variable s.names.now ≡ true) (w : IsOfScript s c) (target : Target) (first : Gather)
     (new : IsNew target first) (g : Gathered) where

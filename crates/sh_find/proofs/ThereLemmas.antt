@@ -34,16 +34,16 @@ use Rattle.sh_domain.specs.Table.{Manner, Nameless, Utility, is_special, manner,
 use Rattle.sh_domain.specs.Table as table
 use Rattle.sh_domain.specs.Views.{Slot, Before, AfterZero, AfterNonzero, Head, Entry, ReturnsZero, ReturnsNonzero, Seen, After, Both, Loss, View, at, gaining, gaining_names, if_nonzero, if_zero, in_any_case, stepped, Call, Count, Define}
 use Rattle.sh_domain.proofs.KnowledgeLemmas.{has_number, stands_there}
-use Rattle.sh_find.specs.Kept.{fact_of}
+use Rattle.sh_drafts.specs.Kept.{fact_of}
 use Rattle.sh_rules.proofs.PrefixLemmas.{table_defines}
 use Rattle.sh_rules.proofs.ScriptLemmas.{script_asks}
 use Rattle.sh_domain.specs.Admitted.{functions_in}
-use Rattle.sh_find.specs.declared.place.Part.{Part}
-use Rattle.sh_find.specs.declared.place.Part.TheVariants as place
-use Rattle.sh_find.specs.declared.place.Place.{Place}
-use Rattle.sh_find.specs.Places.{at as placed_at, place_of, kept_at, drops_at, entry_part, function_part, is_of_command, is_of_function}
-use Rattle.sh_find.specs.Working.{IsWorking, claims, dropped, sets_of}
-use Rattle.sh_find.proofs.KeptLemmas.{kept_command, kept_function, kept_head}
+use Rattle.sh_drafts.specs.declared.place.Part.{Part}
+use Rattle.sh_drafts.specs.declared.place.Part.TheVariants as place
+use Rattle.sh_drafts.specs.declared.place.Place.{Place}
+use Rattle.sh_drafts.specs.Places.{at as placed_at, place_of, kept_at, drops_at, entry_part, function_part, is_of_command, is_of_function}
+use Rattle.sh_drafts.specs.Working.{IsWorking, claims, dropped, sets_of}
+use Rattle.sh_drafts.proofs.KeptLemmas.{kept_command, kept_function, kept_head}
 use Rattle.sh_find.specs.There.{HasPlace, HasDrops, AsksThere, RulesAskThere}
 use Rattle.sh_find.proofs.AroundLemmas.{is_command, is_head, kind_there, command_there, name_there, all_round}
 use Rattle.sh_find.proofs.LoopsLemmas.{all_counted, numbered, numbers_there, looped, told_loop, loops_again, loops_there}

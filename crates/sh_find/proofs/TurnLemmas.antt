@@ -17,23 +17,24 @@ use Rattle.sh_domain.specs.Views as views
 use Rattle.sh_domain.specs.Views.{Certificate, Slot, view_facts}
 use Rattle.sh_domain.specs.Sheets.{Sheet, certificate_of}
 use Rattle.sh_domain.proofs.OrderLemmas.{within_nowhere}
-use Rattle.sh_find.specs.Kept.{IsNamed}
+use Rattle.sh_drafts.specs.Kept.{IsNamed}
 use Rattle.sh_find.specs.declared.gather.Gather.{Gather}
-use Rattle.sh_find.specs.declared.gather.Target.{Target}
-use Rattle.sh_find.specs.declared.place.Place.{Place}
-use Rattle.sh_find.specs.Facts as number
-use Rattle.sh_find.specs.declared.place.Part.{Part}
-use Rattle.sh_find.specs.declared.place.Part.TheVariants.{Before, Zero, Nonzero, Head, Entered, ReturnZero, ReturnNonzero}
-use Rattle.sh_find.specs.Gathered.{Gathered, all_gathered, bounded, gathered, is_at}
-use Rattle.sh_find.specs.Numbers.{by_name, by_number}
-use Rattle.sh_find.specs.Places.{at, same, place_of, claim_there, is_stated_part}
-use Rattle.sh_find.specs.Stated.{asked_bounds, is_asked, is_free}
-use Rattle.sh_find.specs.Turns.{gathered_of, IsNew, AreNumbers, IsQuiet, Stands, StatedStays, sheet_by, IsSunk, IsTurn}
-use Rattle.sh_find.specs.Working.{Sets, claims, dropped, IsWorking, IsLowered, IsCounted, height}
-use Rattle.sh_find.proofs.AboveLemmas.{lowered_above, counted_above}
-use Rattle.sh_find.proofs.GatherLemmas.{all_kept, numbered_only, stands_all}
-use Rattle.sh_find.proofs.HeightLemmas.{lowered_less, counted_less}
-use Rattle.sh_find.proofs.KeptLemmas.{place_same}
+use Rattle.sh_drafts.specs.declared.target.Target.{Target}
+use Rattle.sh_drafts.specs.declared.place.Place.{Place}
+use Rattle.sh_drafts.specs.Facts as number
+use Rattle.sh_drafts.specs.declared.place.Part.{Part}
+use Rattle.sh_drafts.specs.declared.place.Part.TheVariants.{Before, Zero, Nonzero, Head, Entered, ReturnZero, ReturnNonzero}
+use Rattle.sh_drafts.specs.Gathered.{Gathered, all_gathered, bounded, gathered, is_at}
+use Rattle.sh_drafts.specs.Numbers.{by_name, by_number}
+use Rattle.sh_drafts.specs.Places.{at, place_of, claim_there, is_stated_part}
+use Rattle.sh_drafts.specs.Stated.{asked_bounds, is_asked, is_free}
+use Rattle.sh_find.specs.Asked.{gathered_of, IsNew}
+use Rattle.sh_drafts.specs.Turns.{AreNumbers, IsQuiet, Stands, StatedStays, sheet_by, IsSunk, IsTurn}
+use Rattle.sh_drafts.specs.Working.{Sets, claims, dropped, IsWorking, IsLowered, IsCounted, height}
+use Rattle.sh_drafts.proofs.AboveLemmas.{lowered_above, counted_above}
+use Rattle.sh_drafts.proofs.GatherLemmas.{all_kept, numbered_only, stands_all}
+use Rattle.sh_drafts.proofs.HeightLemmas.{lowered_less, counted_less}
+use Rattle.sh_drafts.proofs.KeptLemmas.{place_same}
 use Rattle.sh_find.proofs.StatedLemmas.{all_pass, not_true}
 
 kept_of : (g : Gather) → (gathered_of g).kept ≡ g.kept
@@ -81,24 +82,7 @@ module _ (target : Target) (g : Gather) (new : IsNew target g) where
 
 -- Claims that are stated
 
--- stay if no other claim is lowered
-pub lowered_stays : (old new : kept.Certificate) (p : Place) (known : number.Facts) (changed : Bool) → IsLowered old new p known changed → (is_stated_part p.part ≡ true → known ≡ number.NotReached) → StatedStays old new
-unfolding number.claims
-lowered_stays old new p known false l quiet = record { claims = λ q e. ap (λ c. claims c q) (l.stays refl); drops = λ i. l.drops i }
-lowered_stays old new p known true l quiet = record { claims = λ q e. by q e (same q p) refl; drops = λ i. l.drops i }
-  where
-    all : (f : number.Facts) → number.IsWithin f number.NotReached
-    all f = record { claimed = λ x e. refl }
-
-    never : known ≡ number.NotReached → (o : Option number.Facts) → claims old p ≡ o → is_some o ≡ true → ⊥
-    never nothing None is there = true≢false (sym there)
-    never nothing (Some f) is there = l.fails refl f is (subst (number.IsWithin f) (sym nothing) (all f))
-
-    by : (q : Place) → is_stated_part q.part ≡ true → (b : Bool) → same q p ≡ b → claims new q ≡ claims old q
-    by q e false away = l.elsewhere q away
-    by q e true here = absurd (never (quiet (subst (λ (r : Place). is_stated_part r.part ≡ true) (place_same q p here) e)) (claims old p) refl (l.there refl))
-
--- and what functions drop stays where nothing more is to be dropped
+-- what functions drop stays where nothing more is to be dropped
 counted_stays : (old new : kept.Certificate) (i : ℕ) (sets : Sets) (changed : Bool) → IsCounted old new i sets changed → ((k : ℕ) → sets.vars k ≡ false) → ((k : ℕ) → sets.functions k ≡ false) → StatedStays old new
 counted_stays old new i sets false c vars functions = record { claims = λ q e. c.claims q; drops = λ j. ap (λ x. dropped x j) (c.stays refl) }
 counted_stays old new i sets true c vars functions = absurd (never (dropped old i) refl (c.there refl))

@@ -44,7 +44,7 @@ use Rattle.sh_domain.specs.Views.{After, Before, Both, Entry, Head, Seen, at, at
 use Rattle.sh_domain.proofs.CountedLemmas.{tree_given}
 use Rattle.sh_domain.proofs.NumberCounts.{held, held_command, held_join}
 use Rattle.sh_domain.proofs.NumberLemmas.{read_given}
-use Rattle.sh_find.specs.declared.subject.Subject.{Subject}
+use Rattle.sh_drafts.specs.declared.subject.Subject.{Subject}
 use Rattle.sh_find.specs.Sweeps.{IsPart}
 use Rattle.sh_find.proofs.SweepLemmas.{first_part, last_part}
 

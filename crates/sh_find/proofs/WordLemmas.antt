@@ -33,8 +33,9 @@ use Rattle.sh_rules.specs.Settings.{gained}
 use Rattle.sh_rules.specs.Walks.{facts_in}
 use Rattle.sh_rules.proofs.GainLemmas.{none_gained}
 use Rattle.sh_rules.proofs.LedLemmas.{Follows}
-use Rattle.sh_find.specs.declared.subject.Subject.{Subject}
-use Rattle.sh_find.specs.Sweeps.{AreClauses, AreElements, Gained, IsIn, IsInside, IsKind, IsList, IsOver, IsPart, IsWord, Knows, setting_by}
+use Rattle.sh_drafts.specs.declared.subject.Subject.{Subject}
+use Rattle.sh_find.specs.Sweeps.{AreClauses, AreElements, Gained, IsIn, IsInside, IsKind, IsList, IsPart, IsWord, Knows, setting_by}
+use Rattle.sh_drafts.specs.Ready.{IsOver}
 use Rattle.sh_find.proofs.SweepLemmas.{first_part, knows_follow, last_part}
 
 -- after a call whose result is returned

@@ -11,15 +11,15 @@ use Rattle.sh_domain.specs.Reading.{AreLoops}
 use Rattle.sh_domain.specs.Rules.{Constraint, Within, Counted, script_bounds}
 use Rattle.sh_domain.specs.Views.{Certificate}
 use Rattle.sh_domain.specs.Admitted.{claims_in, functions_in}
-use Rattle.sh_find.specs.declared.gather.Target.{Target}
-use Rattle.sh_find.specs.declared.place.Place.{Place}
-use Rattle.sh_find.specs.declared.subject.Subject.{Subject}
-use Rattle.sh_find.specs.Gathered.{is_at, is_number}
-use Rattle.sh_find.specs.Places.{place_of}
-use Rattle.sh_find.specs.Stated.{asked_bounds}
-use Rattle.sh_find.specs.Turns.{sheet_by}
-use Rattle.sh_find.specs.Working.{IsWorking}
-use Rattle.sh_find.specs.Starts.{start_of}
+use Rattle.sh_drafts.specs.declared.target.Target.{Target}
+use Rattle.sh_drafts.specs.declared.place.Place.{Place}
+use Rattle.sh_drafts.specs.declared.subject.Subject.{Subject}
+use Rattle.sh_drafts.specs.Gathered.{is_at, is_number}
+use Rattle.sh_drafts.specs.Places.{place_of}
+use Rattle.sh_drafts.specs.Stated.{asked_bounds}
+use Rattle.sh_drafts.specs.Turns.{sheet_by}
+use Rattle.sh_drafts.specs.Working.{IsWorking}
+use Rattle.sh_drafts.specs.Starts.{start_of}
 
 -- a constraint requires something of the place, or of the function of the index
 unfoldable pub stands_at : List Text → Place → ℕ → Constraint → Bool

@@ -9,17 +9,18 @@ use Rattle.sh_domain.specs.Names.{number_of}
 use Rattle.sh_domain.specs.Operands.{Names, no_names}
 use Rattle.sh_domain.specs.Sheets.{Sheet}
 use Rattle.sh_domain.specs.Views.{Slot}
-use Rattle.sh_find.specs.Facts as number
-use Rattle.sh_find.specs.Kept.{seen_of}
+use Rattle.sh_drafts.specs.Facts as number
+use Rattle.sh_drafts.specs.Kept.{seen_of}
 use Rattle.sh_rules.specs.Asking.{Asking, both_names}
-use Rattle.sh_find.specs.declared.place.Place.{Place}
+use Rattle.sh_drafts.specs.declared.place.Place.{Place}
 use Rattle.sh_find.specs.declared.sides.Sides.{Sides}
-use Rattle.sh_find.specs.Gathered.{Gathered, counted, is_at, is_number}
-use Rattle.sh_find.specs.Gathering.{drops_nothing, drops_both}
-use Rattle.sh_find.specs.Numbers.{by_number, numbers_in}
-use Rattle.sh_find.specs.Places.{place_of}
-use Rattle.sh_find.specs.Turns.{AreNumbers, IsQuiet, Stands, gathered_of}
-use Rattle.sh_find.specs.Working.{Sets, joined}
+use Rattle.sh_drafts.specs.Gathered.{Gathered, counted, is_at, is_number}
+use Rattle.sh_drafts.specs.Gathering.{drops_nothing, drops_both}
+use Rattle.sh_drafts.specs.Numbers.{by_number, numbers_in}
+use Rattle.sh_drafts.specs.Places.{place_of}
+use Rattle.sh_drafts.specs.Turns.{AreNumbers, IsQuiet, Stands}
+use Rattle.sh_find.specs.Asked.{gathered_of}
+use Rattle.sh_drafts.specs.Working.{Sets, joined}
 
 -- what is known at a place and at another; what the function of the index has to drop
 pub record Sided : Type 0 where

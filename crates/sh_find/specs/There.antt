@@ -13,9 +13,9 @@ use Rattle.sh_domain.specs.Reading.{AreLoops}
 use Rattle.sh_domain.specs.Rules.{Constraint, Within, Counted, script_bounds}
 use Rattle.sh_domain.specs.Views.{Slot}
 use Rattle.sh_domain.specs.Admitted.{IsAdmitted, functions_in}
-use Rattle.sh_find.specs.declared.place.Place.{Place}
-use Rattle.sh_find.specs.Places.{place_of}
-use Rattle.sh_find.specs.Working.{IsWorking, claims, dropped}
+use Rattle.sh_drafts.specs.declared.place.Place.{Place}
+use Rattle.sh_drafts.specs.Places.{place_of}
+use Rattle.sh_drafts.specs.Working.{IsWorking, claims, dropped}
 
 -- the slot has a place, if the functions have these names, and the certificate claims something of
 -- it

@@ -3,29 +3,32 @@ ghost use Rattle.std.specs.Prelude.{◌≡◌, length};
 ghost use Rattle.sh_tree.specs.standard.program.Trees.{script_of};
 ghost use Rattle.sh_domain.specs.Rules.{script_bounds};
 ghost use Rattle.sh_domain.specs.Admitted.{IsAdmitted, claims_in, functions_in};
-ghost use Rattle.sh_find.specs.Gathered.{all_gathered};
-ghost use Rattle.sh_find.specs.Gathering.{gathering};
-ghost use Rattle.sh_find.specs.Stated.{asked_bounds, unstated};
-ghost use Rattle.sh_find.specs.Turns.{gathered_of, sheet_by};
-ghost use Rattle.sh_find.specs.Starts.{start_of};
+ghost use Rattle.sh_drafts.specs.Gathered.{all_gathered};
+ghost use Rattle.sh_find.specs.Asked.{gathering};
+ghost use Rattle.sh_drafts.specs.Stated.{asked_bounds};
+ghost use Rattle.sh_find.specs.Asked.{unstated};
+ghost use Rattle.sh_find.specs.Asked.{gathered_of};
+ghost use Rattle.sh_drafts.specs.Turns.{sheet_by};
+ghost use Rattle.sh_drafts.specs.Starts.{start_of};
 ghost use Rattle.sh_rules.specs.Visits.{command_by};
 ghost use Rattle.sh_rules.specs.Walked.{script_walked};
 ghost use Rattle.sh_rules.specs.Walks.{facts_in, setting};
 
+use crate::claims::claims_of;
 use crate::gather::Gather;
-use crate::spot::{index_of, spot_of};
+use crate::slots::{index_of, spot_of};
 use crate::stated::Unstated;
-use crate::subject::Subject;
 use sh_domain::{Certificate, Knowledge};
+use sh_drafts::Subject;
 use sh_rules::walk::walk;
 use sh_rules::{Asked, Claims, Fault, Place, Rules};
 use sh_tree::Script;
 
 /// What is known at the place that is sought, and what its function has to drop.
 impl Asked for Gather {
-    ghost use Rattle.sh_find.specs.Gathered.{Gathered};
-    ghost use Rattle.sh_find.specs.Gathering.{gathering};
-    ghost use Rattle.sh_find.specs.Turns.{gathered_of};
+    ghost use Rattle.sh_drafts.specs.Gathered.{Gathered};
+    ghost use Rattle.sh_find.specs.Asked.{gathering};
+    ghost use Rattle.sh_find.specs.Asked.{gathered_of};
 
     ghost Kept = { Gathered };
 
@@ -97,7 +100,7 @@ pub fn ask(subject: &Subject<'_>, certificate: &Certificate, gather: Gather) -> 
         (claims_in subject.now.script.now subject.now.tree.now (sheet_by subject.now.names.now certificate.now)) (gathered_of gather)
         (asked_bounds subject.now.stated (script_bounds (script_of subject.now.script.now subject.now.tree.now))) }
 {
-    let claims = subject.claims(certificate);
+    let claims = claims_of(subject, certificate);
     let start = subject.start();
     if subject.stated {
         return ask_unstated(&claims, &start, subject.tree, gather);

@@ -14,17 +14,16 @@ ghost use Rattle.sh_domain.specs.Order.{IsWithin};
 ghost use Rattle.sh_domain.specs.Sheets.{Sheet};
 ghost use Rattle.sh_domain.specs.Views.{Seen};
 ghost use Rattle.sh_rules.specs.Places.{slot_of};
-ghost use Rattle.sh_find.specs.Places.{claim_there, place_of};
-ghost use Rattle.sh_find.specs.Sweeps.{IsPart, IsReady, IsSwept, Keeps};
+ghost use Rattle.sh_drafts.specs.Places.{claim_there, place_of};
+ghost use Rattle.sh_find.specs.Sweeps.{IsPart};
+ghost use Rattle.sh_drafts.specs.Ready.{IsReady, IsSwept, Keeps};
 
-use crate::before::lower_assured;
-use crate::draft::Draft;
+use crate::claims::claims_of;
 use crate::known::{nonzero_of, zero_of};
-use crate::place::Place;
-use crate::spot::spot_of;
-use crate::subject::Subject;
+use crate::slots::spot_of;
 use crate::sweep::{LEVELS, sweep_definition, sweep_items};
 use sh_domain::{Certificate, FlowRule, Knowledge};
+use sh_drafts::{Draft, Place, Subject, lower_assured};
 use sh_rules::walk::begun;
 use sh_rules::{Place as Slot, alone};
 use sh_tree::{Command, Kind, Span};
@@ -105,7 +104,7 @@ fn place_in(subject: &Subject<'_>, certificate: &Certificate, slot: Slot<'_>) ->
     if subject.stated {
         return None;
     }
-    let claims = subject.claims(certificate);
+    let claims = claims_of(subject, certificate);
     let spot = spot_of(&claims, slot)?;
     spot.place()
 }

@@ -10,13 +10,13 @@ ghost use Rattle.sh_domain.specs.Gains.{word_gains};
 ghost use Rattle.sh_domain.specs.Knowledge.{knowledge_facts};
 ghost use Rattle.sh_domain.specs.Views.{gaining};
 ghost use Rattle.sh_rules.specs.Walks as walks;
-ghost use Rattle.sh_find.specs.Sweeps.{AreBranches, AreClauses, IsIn, IsReady, IsSwept};
+ghost use Rattle.sh_find.specs.Sweeps.{AreBranches, AreClauses, IsIn};
+ghost use Rattle.sh_drafts.specs.Ready.{IsReady, IsSwept};
 
-use crate::draft::Draft;
-use crate::subject::Subject;
 use crate::sweep::{sweep_items, sweep_list};
 use crate::words::{pass_word, sweep_patterns};
 use sh_domain::{FlowRule, Knowledge};
+use sh_drafts::{Draft, Subject};
 use sh_rules::walk::begun;
 use sh_rules::{Around, met};
 use sh_tree::{Branch, Clause, Script, Word};

@@ -1,5 +1,5 @@
 //! What is gathered of all that the flow rules require of a certificate.
-ghost use Rattle.std.specs.Prelude.{◌≡◌, length, option_and_then, option_map};
+ghost use Rattle.std.specs.Prelude.{◌≡◌, option_and_then, option_map};
 ghost use Rattle.std.specs.Option.{option_copied};
 ghost use Rattle.sh_domain.specs.Certificates.{drops_of, in_byte_order};
 ghost use Rattle.sh_domain.specs.Knowledge.{AreNumbered, knowledge_facts};
@@ -7,25 +7,17 @@ ghost use Rattle.sh_domain.specs.Slots.{entry_of};
 ghost use Rattle.sh_rules.specs.Asking.{one_function, one_variable};
 ghost use Rattle.sh_rules.specs.Settings.{certificate};
 ghost use Rattle.sh_rules.specs.Walks.{setting};
-ghost use Rattle.sh_find.specs.Gathered.{fitting, fitting_place, is_at, is_number, next_of};
-ghost use Rattle.sh_find.specs.Gathering as gathering;
-ghost use Rattle.sh_find.specs.Numbers.{by_number, numbers_in};
-ghost use Rattle.sh_find.specs.Spots.{place_at};
-ghost use Rattle.sh_find.specs.Turns.{IsNew, gathered_of};
+ghost use Rattle.sh_drafts.specs.Gathered.{fitting, fitting_place, is_at, is_number, next_of};
+ghost use Rattle.sh_drafts.specs.Gathering as gathering;
+ghost use Rattle.sh_drafts.specs.Numbers.{by_number, numbers_in};
+ghost use Rattle.sh_drafts.specs.Spots.{place_at};
+ghost use Rattle.sh_find.specs.Asked.{IsNew, gathered_of};
 
-use crate::place::{Part, Place};
-use crate::sight::Sight;
-use crate::sights::{add_name, add_row, meet_assured};
-use crate::spot::{Spot, fitting, index_of};
+use crate::slots::index_of;
 use sh_domain::{Drops, FunctionEntry, Knowledge, Names, NumberSet};
+use sh_drafts::sights::{add_name, add_row, meet_assured};
+use sh_drafts::{Place, Sight, Spot, Target, fitting};
 use sh_rules::Claims;
-
-/// A place, and the function of an index.
-#[derive(Clone, Copy, Debug, PartialEq, Eq)]
-pub struct Target {
-    pub place: Place,
-    pub function: u16,
-}
 
 /// Whether a certificate keeps all that is asked, and the names that a function has to drop. Of a
 /// place it has what is known there, if any run comes.
@@ -40,19 +32,8 @@ pub struct Gather {
     pub next: Target,
 }
 
-impl Target {
-    /// Where the first command is entered, and the first function.
-    pub const FIRST: Target = Target {
-        place: Place {
-            part: Part::Before,
-            index: 0,
-        },
-        function: 0,
-    };
-}
-
 // The place that is next: this one, if it is one, unless it is passed over.
-#[tactic(auto, unfolding(crate::specs::Gathered::next_of))]
+#[tactic(auto, unfolding(sh_drafts::specs::Gathered::next_of))]
 fn next_place(is_passed: bool, spot: Option<Spot>, next: Place) -> Place
     ensures { result ≡ next_of is_passed (option_and_then fitting_place (option_map place_at spot)) next }
 {
@@ -63,7 +44,7 @@ fn next_place(is_passed: bool, spot: Option<Spot>, next: Place) -> Place
 }
 
 // The index of the function that is next: this one, if it is one, unless it is passed over.
-#[tactic(auto, unfolding(crate::specs::Gathered::next_of))]
+#[tactic(auto, unfolding(sh_drafts::specs::Gathered::next_of))]
 fn next_function(is_passed: bool, index: Option<usize>, next: u16) -> u16
     ensures { result ≡ next_of is_passed (option_and_then fitting index) next }
 {
@@ -74,7 +55,7 @@ fn next_function(is_passed: bool, index: Option<usize>, next: u16) -> u16
 }
 
 /// Whether this is the place.
-#[tactic(auto, unfolding(crate::specs::Gathered::is_at))]
+#[tactic(auto, unfolding(sh_drafts::specs::Gathered::is_at))]
 pub fn is_place(spot: Option<Spot>, place: Place) -> bool
     ensures { result ≡ is_at (option_map place_at spot) place }
 {
@@ -85,7 +66,7 @@ pub fn is_place(spot: Option<Spot>, place: Place) -> bool
 }
 
 // Whether this is the index.
-#[tactic(auto, unfolding(crate::specs::Gathered::is_number))]
+#[tactic(auto, unfolding(sh_drafts::specs::Gathered::is_number))]
 fn is_index(found: Option<usize>, index: u16) -> bool
     ensures { result ≡ is_number found index }
 {
@@ -106,7 +87,7 @@ fn entry_in<'a>(claims: &'a Claims<'_>, name: &[u8]) -> Option<&'a FunctionEntry
 
 impl Gather {
     /// Nothing was asked yet.
-    #[tactic(auto, unfolding(crate::specs::Kept::seen_of))]
+    #[tactic(auto, unfolding(sh_drafts::specs::Kept::seen_of))]
     pub fn new(target: Target) -> Gather
         ensures { IsNew target result }
     {
@@ -122,7 +103,7 @@ impl Gather {
 
     /// Something is asked of a place, which is kept or not; says whether this is the one that is
     /// sought.
-    #[tactic(auto, unfolding(crate::specs::Turns::gathered_of))]
+    #[tactic(auto, unfolding(crate::specs::Asked::gathered_of))]
     pub fn see_place(&mut self, spot: Option<Spot>, is_kept: bool) -> bool
         ensures kept { gathered_of self.new ≡ gathering.tested_at (option_map place_at spot) is_kept (gathered_of self.old) }
         ensures here { result ≡ is_at (option_map place_at spot) (gathered_of self.old).place }
@@ -135,7 +116,7 @@ impl Gather {
 
     /// Something is asked of the function of an index, which is kept or not; says whether this is
     /// the one that is sought.
-    #[tactic(auto, unfolding(crate::specs::Turns::gathered_of))]
+    #[tactic(auto, unfolding(crate::specs::Asked::gathered_of))]
     pub fn see_function(&mut self, index: Option<usize>, is_kept: bool) -> bool
         ensures kept { gathered_of self.new ≡ gathering.tested_by index is_kept (gathered_of self.old) }
         ensures here { result ≡ is_number index (gathered_of self.old).function }

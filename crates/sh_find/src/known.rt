@@ -11,12 +11,14 @@ ghost use Rattle.sh_domain.specs.Table.{behind_words};
 ghost use Rattle.sh_domain.specs.Views as views;
 ghost use Rattle.sh_domain.specs.Views.{After, Seen, at, gaining, gaining_names};
 ghost use Rattle.sh_demands.specs.Knowing.{action_gains};
-ghost use Rattle.sh_find.specs.Sweeps.{ArePassed, IsPassed, IsReady, Knows, KnowsBehind, known_behind};
+ghost use Rattle.sh_find.specs.Sweeps.{ArePassed, IsPassed, Knows, KnowsBehind, known_behind};
+ghost use Rattle.sh_drafts.specs.Ready.{IsReady};
 
-use crate::subject::Subject;
+use crate::claims::claims_of;
 use sh_demands::Known;
 use sh_demands::own::gain_operands;
 use sh_domain::{Certificate, FlowRule, Knowledge};
+use sh_drafts::Subject;
 use sh_rules::walk::Course;
 use sh_rules::{
     Behind, enter_operator, gain_action, gain_assigned, gain_redirects, gain_variable, gain_word,
@@ -31,7 +33,7 @@ pub fn before_of(subject: &Subject<'_>, certificate: &Certificate, number: u32) 
     requires { (probed : ℕ) × IsReady subject.now certificate.now probed }
     ensures { Knows subject.now (at (views.Before number)) (knowledge_facts subject.now.names.now result) }
 {
-    let claims = subject.claims(certificate);
+    let claims = claims_of(subject, certificate);
     let entered = claims.before(number);
     entered
 }
@@ -41,7 +43,7 @@ pub fn zero_of(subject: &Subject<'_>, certificate: &Certificate, number: u32) ->
     requires { (probed : ℕ) × IsReady subject.now certificate.now probed }
     ensures { Knows subject.now (at (views.AfterZero number)) (knowledge_facts subject.now.names.now result) }
 {
-    let claims = subject.claims(certificate);
+    let claims = claims_of(subject, certificate);
     claims.zero(number)
 }
 
@@ -50,7 +52,7 @@ pub fn nonzero_of(subject: &Subject<'_>, certificate: &Certificate, number: u32)
     requires { (probed : ℕ) × IsReady subject.now certificate.now probed }
     ensures { Knows subject.now (at (views.AfterNonzero number)) (knowledge_facts subject.now.names.now result) }
 {
-    let claims = subject.claims(certificate);
+    let claims = claims_of(subject, certificate);
     claims.nonzero(number)
 }
 
@@ -65,7 +67,7 @@ fn behind_redirections(
     ensures { (q : Seen) → Knows subject.now q (knowledge_facts subject.now.names.now known.now)
         → Knows subject.now (gaining (redirects_gains (redirects_from subject.now.script.now redirects.now)) q) (knowledge_facts subject.now.names.now result) }
 {
-    let claims = subject.claims(certificate);
+    let claims = claims_of(subject, certificate);
     let mut behind = *known;
     gain_redirects(&claims, redirects, &mut behind);
     behind
@@ -94,7 +96,7 @@ pub fn started_in(subject: &Subject<'_>, certificate: &Certificate, known: &Know
     requires { (probed : ℕ) × IsReady subject.now certificate.now probed }
     ensures { (q : Seen) → Knows subject.now q (knowledge_facts subject.now.names.now known.now) → Knows subject.now (views.without_job q) (knowledge_facts subject.now.names.now result) }
 {
-    let claims = subject.claims(certificate);
+    let claims = claims_of(subject, certificate);
     without_job(&claims, known)
 }
 
@@ -109,7 +111,7 @@ pub fn behind_pipe(
     ensures { (q : Seen) → Knows subject.now q (knowledge_facts subject.now.names.now known.now)
         → KnowsBehind subject.now (pipeline_after q (trees.pipeline_of subject.now.script.now pipe.now)) (known_behind subject.now result) }
 {
-    let claims = subject.claims(certificate);
+    let claims = claims_of(subject, certificate);
     pipe_behind(&claims, known, pipe)
 }
 
@@ -124,7 +126,7 @@ pub fn pass_link(
     ensures { (o : After) → KnowsBehind subject.now o (known_behind subject.now behind.old)
         → KnowsBehind subject.now (linked link.now.0 o (pipeline_after (link_seen link.now.0 o) (trees.pipeline_of subject.now.script.now link.now.1))) (known_behind subject.now behind.new) }
 {
-    let claims = subject.claims(certificate);
+    let claims = claims_of(subject, certificate);
     behind.pass_link(&claims, link.0, &link.1);
 }
 
@@ -133,7 +135,7 @@ pub fn head_of(subject: &Subject<'_>, certificate: &Certificate, number: u32) ->
     requires { (probed : ℕ) × IsReady subject.now certificate.now probed }
     ensures { Knows subject.now (at (views.Head number)) (knowledge_facts subject.now.names.now result) }
 {
-    let claims = subject.claims(certificate);
+    let claims = claims_of(subject, certificate);
     claims.head(number)
 }
 
@@ -148,7 +150,7 @@ fn behind_name(
     ensures { (q : Seen) → Knows subject.now q (knowledge_facts subject.now.names.now known.now)
         → Knows subject.now (gaining_names (name.now ∷ []) q) (knowledge_facts subject.now.names.now result) }
 {
-    let claims = subject.claims(certificate);
+    let claims = claims_of(subject, certificate);
     let mut behind = *known;
     gain_variable(&claims, name, &mut behind);
     behind
@@ -173,7 +175,7 @@ fn entry_by(subject: &Subject<'_>, certificate: &Certificate, name: &[u8]) -> Kn
     requires { (probed : ℕ) × IsReady subject.now certificate.now probed }
     ensures { Knows subject.now (at (views.Entry name.now)) (knowledge_facts subject.now.names.now result) }
 {
-    let claims = subject.claims(certificate);
+    let claims = claims_of(subject, certificate);
     claims.function_entry(name)
 }
 
@@ -196,7 +198,7 @@ pub fn behind_word(
     ensures { (q : Seen) → Knows subject.now q (knowledge_facts subject.now.names.now known.now)
         → Knows subject.now (gaining (word_gains (parts_from subject.now.script.now word.now.parts)) q) (knowledge_facts subject.now.names.now result) }
 {
-    let claims = subject.claims(certificate);
+    let claims = claims_of(subject, certificate);
     let mut behind = *known;
     gain_word(&claims, word, &mut behind);
     behind
@@ -233,7 +235,7 @@ pub fn operand_of(
     ensures { (q : Seen) → Knows subject.now q (knowledge_facts subject.now.names.now known.now)
         → Knows subject.now (operand_seen action (trees.parameter_of subject.now.script.now parameter) q) (knowledge_facts subject.now.names.now result) }
 {
-    let claims = subject.claims(certificate);
+    let claims = claims_of(subject, certificate);
     let mut inside = *known;
     enter_operator(&claims, action, parameter, &mut inside);
     inside
@@ -251,7 +253,7 @@ pub fn behind_action(
     ensures { (q : Seen) → Knows subject.now q (knowledge_facts subject.now.names.now known.now)
         → Knows subject.now (gaining (action_gains (trees.parameter_of subject.now.script.now parameter) action) q) (knowledge_facts subject.now.names.now result) }
 {
-    let claims = subject.claims(certificate);
+    let claims = claims_of(subject, certificate);
     let mut behind = *known;
     gain_action(&claims, action, parameter, &mut behind);
     behind
@@ -268,7 +270,7 @@ pub fn behind_assigned(
     ensures { (q : Seen) → Knows subject.now q (knowledge_facts subject.now.names.now known.now)
         → Knows subject.now (gaining (named (assigned_in (trees.expression_of subject.now.script.now expression.now))) q) (knowledge_facts subject.now.names.now result) }
 {
-    let claims = subject.claims(certificate);
+    let claims = claims_of(subject, certificate);
     let mut behind = *known;
     gain_assigned(&claims, expression, &mut behind);
     behind
@@ -279,7 +281,7 @@ pub fn pass_on(subject: &Subject<'_>, certificate: &Certificate, course: &mut Co
     requires { (probed : ℕ) × IsReady subject.now certificate.now probed }
     ensures { IsPassed subject.now course.old course.new item.now }
 {
-    let claims = subject.claims(certificate);
+    let claims = claims_of(subject, certificate);
     course.behind.pass_item(&claims, item);
     course.by = FlowRule::F2;
 }
@@ -297,7 +299,7 @@ pub fn pass_all(
     if items.is_empty() {
         return;
     }
-    let claims = subject.claims(certificate);
+    let claims = claims_of(subject, certificate);
     course.behind.pass_all(&claims, items);
     course.by = FlowRule::F2;
 }

@@ -7,21 +7,21 @@ ghost use Rattle.sh_rules.specs.Visits.{command_by};
 ghost use Rattle.sh_rules.specs.Walks as walks;
 ghost use Rattle.sh_domain.specs.Admitted.{IsAdmitted};
 ghost use Rattle.sh_find.specs.Sides.{AreNumbersBeside, IsQuietBeside, StandsBeside, sided_of};
-ghost use Rattle.sh_find.specs.Stated.{asking_by};
-ghost use Rattle.sh_find.specs.Sweeps.{IsCommand, IsReady, IsSwept, Keeps, setting_by};
-ghost use Rattle.sh_find.specs.Turns.{AreNumbers, IsQuiet, Stands, gathered_of};
+ghost use Rattle.sh_find.specs.Asked.{asking_by};
+ghost use Rattle.sh_find.specs.Sweeps.{IsCommand, setting_by};
+ghost use Rattle.sh_drafts.specs.Ready.{IsReady, IsSwept, Keeps};
+ghost use Rattle.sh_drafts.specs.Turns.{AreNumbers, IsQuiet, Stands};
+ghost use Rattle.sh_find.specs.Asked.{gathered_of};
 
-use crate::before::{lower_at, lower_before};
-use crate::draft::Draft;
-use crate::gather::{Gather, Target};
-use crate::kept::{drops_of, facts_at};
-use crate::place::{Part, Place};
+use crate::claims::claims_of;
+use crate::before::lower_before;
+use crate::gather::Gather;
 use crate::sides::Sides;
 use crate::stated::Unstated;
-use crate::subject::Subject;
 use crate::turn::lower_gathered;
-use crate::wakes::note_lowered;
 use sh_domain::{Certificate, Facts, FlowRule, Knowledge, is_loop};
+use sh_drafts::kept::{drops_of, facts_at};
+use sh_drafts::{Draft, Part, Place, Subject, Target, lower_at, note_lowered};
 use sh_rules::{Around, Asked, tell_command};
 use sh_tree::Command;
 use std::alloc::AllocError;
@@ -40,7 +40,7 @@ fn tell<A: Asked>(
     requires admitted { IsAdmitted subject.now.script.now subject.now.policy.now subject.now.tree.now subject.now.names.now }
     ensures { A.kept result ≡ command_by (asking_by subject.now.stated A.asked) (setting_by subject.now certificate.now) (A.kept asked) (met_in (setting_by subject.now certificate.now) by around.now known.now command.now) }
 {
-    let claims = subject.claims(certificate);
+    let claims = claims_of(subject, certificate);
     if subject.stated {
         let mut unstated = Unstated { asked };
         tell_command(&claims, by, around, known, command, &mut unstated);

@@ -2,13 +2,13 @@
 ghost use Rattle.std.specs.Prelude.{IfOk};
 ghost use Rattle.sh_domain.specs.Knowledge.{knowledge_facts};
 ghost use Rattle.sh_rules.specs.Walks as walks;
-ghost use Rattle.sh_find.specs.Sweeps.{IsCommand, IsReady, IsSwept};
+ghost use Rattle.sh_find.specs.Sweeps.{IsCommand};
+ghost use Rattle.sh_drafts.specs.Ready.{IsReady, IsSwept};
 
-use crate::draft::Draft;
 use crate::own::lower_head;
-use crate::subject::Subject;
 use crate::sweep::sweep_inside;
 use sh_domain::{Facts, FlowRule, Knowledge};
+use sh_drafts::{Draft, Subject};
 use sh_rules::{Around, Loops};
 use sh_tree::Command;
 use std::alloc::AllocError;

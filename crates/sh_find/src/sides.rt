@@ -1,16 +1,15 @@
 //! What the flow rules require of two places in one visit.
 ghost use Rattle.std.specs.Prelude.{◌≡◌};
 ghost use Rattle.sh_domain.specs.Knowledge.{AreNumbered, knowledge_facts};
-ghost use Rattle.sh_find.specs.Facts.{meet};
-ghost use Rattle.sh_find.specs.Kept.{seen_of};
-ghost use Rattle.sh_find.specs.Numbers.{by_number};
+ghost use Rattle.sh_drafts.specs.Facts.{meet};
+ghost use Rattle.sh_drafts.specs.Kept.{seen_of};
+ghost use Rattle.sh_drafts.specs.Numbers.{by_number};
 
 use crate::gather::{Gather, is_place};
-use crate::place::Place;
-use crate::sight::Sight;
-use crate::sights::meet_assured;
-use crate::spot::spot_of;
+use crate::slots::spot_of;
 use sh_domain::{Knowledge, Names};
+use sh_drafts::sights::meet_assured;
+use sh_drafts::{Place, Sight};
 use sh_rules::{Asked, Claims, Fault, Place as Slot};
 
 /// What is known at two places where any run comes, and the names that a function has to drop.

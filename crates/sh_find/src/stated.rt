@@ -28,7 +28,7 @@ pub struct Unstated<A> {
 }
 
 impl<A: Asked> Asked for Unstated<A> {
-    ghost use Rattle.sh_find.specs.Stated.{unstated};
+    ghost use Rattle.sh_find.specs.Asked.{unstated};
 
     ghost Kept = { A.Kept };
 

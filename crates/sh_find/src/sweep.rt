@@ -15,22 +15,19 @@ ghost use Rattle.sh_domain.specs.Facts.{Facts};
 ghost use Rattle.sh_domain.specs.Knowledge.{knowledge_facts};
 ghost use Rattle.sh_domain.specs.Views.{After, Seen, without_job};
 ghost use Rattle.sh_rules.specs.Walks as walks;
-ghost use Rattle.sh_find.specs.Sweeps.{AreItems, AreLinks, AreParts, ArePassed, IsAndOr, IsCommand, IsInside, IsKind, IsList, IsPart, IsPassed, IsPipe, IsReady, IsSwept, Knows, KnowsBehind, known_behind};
+ghost use Rattle.sh_find.specs.Sweeps.{AreItems, AreLinks, AreParts, ArePassed, IsAndOr, IsCommand, IsInside, IsKind, IsList, IsPart, IsPassed, IsPipe, Knows, KnowsBehind, known_behind};
+ghost use Rattle.sh_drafts.specs.Ready.{IsReady, IsSwept};
 
 use crate::before::lower_before;
 use crate::bodies::sweep_called;
 use crate::choices::{sweep_case, sweep_cond};
-use crate::draft::Draft;
-use crate::inner::is_in_elements;
-use crate::known::{
-    behind_pipe, entry_of, head_of, inside_of, pass_all, pass_link, pass_on, process_of,
-    started_in, turn_of,
-};
+use crate::known::{behind_pipe, entry_of, head_of, inside_of, pass_all, pass_link, pass_on, process_of, started_in, turn_of};
 use crate::own::{lower_behind, lower_command};
 use crate::rounds::sweep_rounds;
-use crate::subject::Subject;
 use crate::words::{sweep_elements, sweep_for_words, sweep_redirections};
 use sh_domain::{FlowRule, Knowledge};
+use sh_drafts::inner::is_in_elements;
+use sh_drafts::{Draft, Subject};
 use sh_rules::walk::{Course, begun};
 use sh_rules::{Around, Behind, alone, in_function, is_settled};
 use sh_tree::{AndOr, Command, Item, Kind, Link, LoopKind, Pipe, Script, Span};

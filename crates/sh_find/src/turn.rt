@@ -9,26 +9,23 @@ ghost use Rattle.sh_domain.specs.Order.{IsBelow};
 ghost use Rattle.sh_domain.specs.Reading.{claim_fits};
 ghost use Rattle.sh_domain.specs.Rules.{script_bounds};
 ghost use Rattle.sh_domain.specs.Sheets.{Sheet};
-ghost use Rattle.sh_find.specs.Kept.{seen_of, IsNamed};
 ghost use Rattle.sh_domain.specs.Admitted.{IsAdmitted, claims_in, functions_in};
-ghost use Rattle.sh_find.specs.declared.place.Place as place;
-ghost use Rattle.sh_find.specs.Idle.{ClaimStays, IsIdle};
-ghost use Rattle.sh_find.specs.Places.{claim_there};
+ghost use Rattle.sh_drafts.specs.declared.place.Place as place;
+ghost use Rattle.sh_drafts.specs.Idle.{IsIdle};
+ghost use Rattle.sh_drafts.specs.Places.{claim_there};
 ghost use Rattle.sh_find.specs.Next.{IsBroken, IsOfScript};
-ghost use Rattle.sh_find.specs.Stated.{asked_bounds};
-ghost use Rattle.sh_find.specs.Turns.{AreNumbers, IsQuiet, IsSunk, IsTurn, Stands, gathered_of, sheet_by};
-ghost use Rattle.sh_find.specs.Working.{IsLowered, IsWorking};
-ghost use Rattle.sh_find.specs.Writable.{IsWritten, sets_in};
-ghost use Rattle.sh_find.specs.Starts.{start_of};
+ghost use Rattle.sh_drafts.specs.Stated.{asked_bounds};
+ghost use Rattle.sh_drafts.specs.Turns.{AreNumbers, IsQuiet, IsSunk, IsTurn, Stands, sheet_by};
+ghost use Rattle.sh_find.specs.Asked.{gathered_of};
+ghost use Rattle.sh_drafts.specs.Working.{IsWorking};
+ghost use Rattle.sh_drafts.specs.Writable.{IsWritten, sets_in};
+ghost use Rattle.sh_drafts.specs.Starts.{start_of};
 
 use crate::asked::ask;
-use crate::gather::{Gather, Target};
-use crate::lower::{count, lower};
-use crate::place::Place;
-use crate::sight::Sight;
-use crate::subject::Subject;
-use crate::writable::Writable;
+use crate::gather::Gather;
 use sh_domain::{Certificate, Names};
+use sh_drafts::lower::{count, lower_known};
+use sh_drafts::{Subject, Target, Writable};
 use sh_rows::BitRow;
 use std::alloc::AllocError;
 
@@ -51,39 +48,6 @@ fn asked(subject: &Subject<'_>, certificate: &Certificate, target: Target) -> Ga
 {
     let gather = Gather::new(target);
     ask(subject, certificate, gather)
-}
-
-/// Lowers the claim of a place if any run comes to it.
-///
-/// # Errors
-///
-/// If a growth was refused or no place for a row is left.
-#[tactic(auto, unfolding(crate::specs::Kept::seen_of))]
-pub fn lower_known(
-    names: &Names,
-    writable: &Writable,
-    certificate: &mut Certificate,
-    probe: &mut BitRow,
-    place: Place,
-    known: &Option<Sight>,
-) -> Result<bool, AllocError>
-    requires few { length names.now ≤ MAX_NAMES }
-    requires written { IsWritten names.now (sets_in writable.now.vars writable.now.functions) }
-    requires count { certificate.old.rows.count ≡ length names.now }
-    requires probed { probe.old.count ≡ length names.now }
-    requires named { IsNamed (length names.now) (seen_of known.now) }
-    ensures lowered { IfOk result (λ changed. (loops : List Bool) (functions : ℕ) → IsWorking names.now loops functions certificate.old
-        → IsLowered certificate.old certificate.new place (seen_of known.now) changed) }
-    ensures working { IfOk result (λ changed. (loops : List Bool) (functions : ℕ) → IsWorking names.now loops functions certificate.old
-        → IsWorking names.now loops functions certificate.new) }
-    ensures idle { IfOk result (λ changed. changed ≡ false → ClaimStays certificate.old place (seen_of known.now) (sets_in writable.now.vars writable.now.functions)) }
-    ensures fits { IfOk result (λ changed. ClaimStays certificate.new place (seen_of known.now) (sets_in writable.now.vars writable.now.functions)) }
-    ensures probed { IfOk result (λ changed. probe.new.count ≡ length names.now) }
-{
-    match known {
-        None => Ok(false),
-        Some(sight) => lower(names, writable, certificate, probe, place, sight),
-    }
 }
 
 /// Lowers the certificate by what was gathered, and says whether it claimed more or had a function

@@ -1,5 +1,5 @@
 //! The sweep goes into words: each command is lowered where its substitution is expanded (XCU 2.6).
-ghost use Rattle.std.specs.Prelude.{◌≡◌, ◌∷◌, ℕ, List, IfOk};
+ghost use Rattle.std.specs.Prelude.{◌∷◌, ℕ, List, IfOk};
 ghost use Rattle.sh_tree.specs.declared.tree.Element as tree;
 ghost use Rattle.sh_tree.specs.Lists.{elements_from, for_words_from, operands_from, parts_from, redirects_from, words_from};
 ghost use Rattle.sh_tree.specs.standard.program.Syntax as p;
@@ -10,16 +10,14 @@ ghost use Rattle.sh_domain.specs.Knowledge.{knowledge_facts};
 ghost use Rattle.sh_domain.specs.Table.{behind_words};
 ghost use Rattle.sh_domain.specs.Views.{Before, at};
 ghost use Rattle.sh_demands.specs.Knowing.{action_gains};
-ghost use Rattle.sh_find.specs.Sweeps.{AreElements, Gained, IsIn, IsPart, IsReady, IsSwept, IsWord};
+ghost use Rattle.sh_find.specs.Sweeps.{AreElements, Gained, IsIn, IsPart, IsWord};
+ghost use Rattle.sh_drafts.specs.Ready.{IsReady, IsSwept};
 
-use crate::draft::Draft;
-use crate::inner::{is_in_redirects, is_in_word};
-use crate::known::{
-    before_of, behind_action, behind_assigned, behind_operands, behind_word, operand_of, started_in,
-};
-use crate::subject::Subject;
+use crate::known::{before_of, behind_action, behind_assigned, behind_operands, behind_word, operand_of, started_in};
 use crate::sweep::sweep_list;
 use sh_domain::{FlowRule, Knowledge};
+use sh_drafts::inner::{is_in_redirects, is_in_word};
+use sh_drafts::{Draft, Subject};
 use sh_rules::alone;
 use sh_tree::{
     Action, Binary, Element, Expr, Items, ParameterOperator, Part, Redirect, Script,

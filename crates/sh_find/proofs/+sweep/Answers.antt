@@ -29,14 +29,16 @@ use Rattle.sh_rules.specs.Behind.{both, in_any_case}
 use Rattle.sh_rules.specs.Walks as walks
 use Rattle.sh_rules.specs.Walks.{facts_in}
 use Rattle.sh_rules.proofs.LedLemmas.{turns_led}
-use Rattle.sh_find.specs.Sweeps.{AreBranches, AreClauses, AreElements, AreItems, AreLinks, AreParts, Gained, IsAndOr, IsCommand, IsIn, IsInside, IsKind, IsList, IsPart, IsPipe, IsReady, IsWord, Knows, known_behind, setting_by}
+use Rattle.sh_find.specs.Sweeps.{AreBranches, AreClauses, AreElements, AreItems, AreLinks, AreParts, Gained, IsAndOr, IsCommand, IsIn, IsInside, IsKind, IsList, IsPart, IsPipe, IsWord, Knows, known_behind, setting_by}
+use Rattle.sh_drafts.specs.Ready.{IsReady}
 use Rattle.sh_find.proofs.PlacedLemmas.{at_index, background_placed, begun_at, body_placed, branch_body, branch_condition, branches_next, branches_placed, case_placed, clause_list, clauses_next, clauses_placed, command_placed, condition_placed, definition_placed, else_placed, for_placed, foreground_placed, goes_last, goes_next, GoesOn, group_placed, inside_placed, items_next, known_after, link_placed, links_next, links_placed, long_placed, next_goes, next_item, parts_next, pipe_placed, short_placed, subshell_placed}
-use Rattle.sh_find.proofs.SweepLemmas.{knows_follow, names_numbered, ready_again, stands_of, swept_more, swept_none}
+use Rattle.sh_find.proofs.SweepLemmas.{knows_follow, stands_of}
+use Rattle.sh_drafts.proofs.ReadyLemmas.{names_numbered, ready_again, swept_more, swept_none}
 use Rattle.sh_find.proofs.WordLemmas.{Along, along_first, along_no_operands, along_no_parts, along_operands, along_parts, arithmetic_gained, arithmetic_placed, assigned_gained, assigned_placed, both_gained, case_word, chain_first, chain_gained, chain_rest, choice_condition, choice_gained, choice_no, choice_yes, clause_patterns, double_gained, double_placed, element_as, elements_first, elements_placed, expanded_gained, expanded_placed, expansion_gained, expansion_placed, expression_as, expression_gained, file_gained, file_placed, for_words_placed, gained_nowhere, here_gained, here_placed, if_ok, kind_as, kind_placed, link_expression, listed_placed, literal_gained, nothing_gained, operand_inside, operand_next, operand_placed, operands_next, parenthesis_gained, parenthesis_placed, part_as, part_gained, part_placed, pattern_placed, patterns_next, pieces_next, plain_gained, redirect_placed, redirection_next, redirection_placed, redirections_placed, redirects_next, remove_placed, signed_gained, signed_placed, substitution_placed, use_gained, use_placed, value_next, value_placed, word_placed, words_next}
 use Rattle.sh_find.proofs.+sweep.Goals as goal
-use Rattle.sh_find.proofs.+sweep.Answers.Bodies as bodies
-use Rattle.sh_find.proofs.+sweep.Answers.Choices as choices
-use Rattle.sh_find.proofs.+sweep.Answers.Words as words
+use None as bodies
+use None as choices
+use None as words
 
 pub sweep::enter_item-enter_process-requires : goal.sweep::enter_item-enter_process-requires
 unfolding facts_in

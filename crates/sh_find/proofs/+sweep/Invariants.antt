@@ -5,7 +5,8 @@ use Rattle.sh_domain.specs.Gains.{operands_gains, word_gains}
 use Rattle.sh_domain.specs.Knowledge.{knowledge_facts}
 use Rattle.sh_domain.specs.Views.{After, Seen}
 use Rattle.sh_rules.specs.Walks as walks
-use Rattle.sh_find.specs.Sweeps.{AreBranches, AreClauses, AreElements, AreItems, AreLinks, AreParts, IsIn, IsSwept, IsWord, Knows, KnowsBehind, known_behind}
+use Rattle.sh_find.specs.Sweeps.{AreBranches, AreClauses, AreElements, AreItems, AreLinks, AreParts, IsIn, IsWord, Knows, KnowsBehind, known_behind}
+use Rattle.sh_drafts.specs.Ready.{IsSwept}
 use Rattle.sh_find.proofs.PlacedLemmas.{GoesOn}
 use Rattle.sh_find.proofs.WordLemmas.{Along}
 use Rattle.sh_find.proofs.+sweep.Given as goal

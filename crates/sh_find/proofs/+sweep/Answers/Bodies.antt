@@ -15,12 +15,13 @@ use Rattle.sh_domain.specs.Knowledge.{knowledge_facts}
 use Rattle.sh_domain.specs.Order.{IsWithin}
 use Rattle.sh_domain.specs.Views.{ReturnsNonzero, ReturnsZero, Seen}
 use Rattle.sh_rules.specs.Walks as walks
-use Rattle.sh_find.specs.Places.{claim_there, place_of}
-use Rattle.sh_find.specs.Sweeps.{IsInside, IsPart, IsReady}
+use Rattle.sh_drafts.specs.Places.{claim_there, place_of}
+use Rattle.sh_find.specs.Sweeps.{IsInside, IsPart}
+use Rattle.sh_drafts.specs.Ready.{IsReady}
 use Rattle.sh_find.proofs.BeforeLemmas.{returns_nonzero, returns_zero, there_if}
 use Rattle.sh_find.proofs.CalleeLemmas.{callee_some}
 use Rattle.sh_find.proofs.PlacedLemmas.{defined_placed, inside_placed, kind_part}
-use Rattle.sh_find.proofs.SweepLemmas.{ready_again, swept_more}
+use Rattle.sh_drafts.proofs.ReadyLemmas.{ready_again, swept_more}
 use Rattle.sh_find.proofs.UnitLemmas.{unit_placed}
 use Rattle.sh_find.proofs.+sweep.Goals as goal
 

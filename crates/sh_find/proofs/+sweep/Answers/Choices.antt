@@ -12,9 +12,10 @@ use Rattle.sh_domain.specs.Knowledge.{knowledge_facts}
 use Rattle.sh_rules.specs.Behind.{both}
 use Rattle.sh_rules.specs.Walks as walks
 use Rattle.sh_rules.specs.Walks.{facts_in}
-use Rattle.sh_find.specs.Sweeps.{AreBranches, AreClauses, AreItems, IsIn, IsList, IsReady, IsWord, known_behind, setting_by}
+use Rattle.sh_find.specs.Sweeps.{AreBranches, AreClauses, AreItems, IsIn, IsList, IsWord, known_behind, setting_by}
+use Rattle.sh_drafts.specs.Ready.{IsReady}
 use Rattle.sh_find.proofs.PlacedLemmas.{at_index, begun_at, branch_body, branch_condition, branches_next, clause_list, clauses_next, clauses_placed, else_placed, known_after}
-use Rattle.sh_find.proofs.SweepLemmas.{names_numbered, ready_again, swept_more, swept_none}
+use Rattle.sh_drafts.proofs.ReadyLemmas.{names_numbered, ready_again, swept_more, swept_none}
 use Rattle.sh_find.proofs.WordLemmas.{case_word, clause_patterns, if_ok}
 use Rattle.sh_find.proofs.+sweep.Goals as goal
 

@@ -13,9 +13,10 @@ use Rattle.sh_domain.specs.Knowledge.{knowledge_facts}
 use Rattle.sh_domain.specs.Views.{Before, at}
 use Rattle.sh_rules.specs.Walks as walks
 use Rattle.sh_rules.specs.Walks.{facts_in}
-use Rattle.sh_find.specs.Sweeps.{AreElements, Gained, IsIn, IsList, IsReady, IsWord}
+use Rattle.sh_find.specs.Sweeps.{AreElements, Gained, IsIn, IsList, IsWord}
+use Rattle.sh_drafts.specs.Ready.{IsReady}
 use Rattle.sh_find.proofs.PlacedLemmas.{at_index}
-use Rattle.sh_find.proofs.SweepLemmas.{names_numbered, ready_again, swept_more, swept_none}
+use Rattle.sh_drafts.proofs.ReadyLemmas.{names_numbered, ready_again, swept_more, swept_none}
 use Rattle.sh_find.proofs.WordLemmas.{Along, along_first, along_no_operands, along_no_parts, along_operands, along_parts, arithmetic_gained, arithmetic_placed, assigned_gained, assigned_placed, both_gained, chain_first, chain_gained, chain_rest, choice_condition, choice_gained, choice_no, choice_yes, double_gained, double_placed, element_as, elements_first, expanded_gained, expanded_placed, expansion_gained, expansion_placed, expression_as, expression_gained, file_gained, file_placed, gained_nowhere, here_gained, here_placed, if_ok, link_expression, listed_placed, literal_gained, nothing_gained, operand_inside, operand_next, operand_placed, operands_next, parenthesis_gained, parenthesis_placed, part_as, part_gained, part_placed, pattern_placed, patterns_next, pieces_next, plain_gained, redirect_placed, redirection_next, redirection_placed, redirects_next, remove_placed, signed_gained, signed_placed, substitution_placed, use_gained, use_placed, value_next, value_placed, word_placed, words_next}
 use Rattle.sh_find.proofs.+sweep.Goals as goal
 

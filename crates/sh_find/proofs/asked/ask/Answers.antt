@@ -1,8 +1,7 @@
 use Rattle.std.proofs.Common.{true, false}
-use Rattle.sh_find.specs.Stated.{asking_by}
-use Rattle.sh_find.specs.Turns.{gathered_of}
+use Rattle.sh_find.specs.Asked.{asking_by, gathered_of}
 use Rattle.sh_find.proofs.AskingLemmas.{walk_asks}
-use Rattle.sh_find.proofs.GreatestLemmas.{numbered}
+use Rattle.sh_drafts.proofs.ReadyLemmas.{numbered}
 use Rattle.sh_find.proofs.asked.ask.Goals as goal
 
 pub returns-then-subject : goal.returns-then-subject

@@ -2,8 +2,8 @@ use Rattle.std.proofs.Common.{Some, ap, subst, sym}
 use Rattle.sh_domain.specs.Facts.{facts}
 use Rattle.sh_domain.specs.Knowledge.{assured_facts}
 use Rattle.sh_domain.specs.Order.{IsWithin}
-use Rattle.sh_find.specs.Places.{claim_there, is_stated_part}
-use Rattle.sh_find.specs.declared.place.Place.{Place}
+use Rattle.sh_drafts.specs.Places.{claim_there, is_stated_part}
+use Rattle.sh_drafts.specs.declared.place.Place.{Place}
 use Rattle.sh_find.proofs.BeforeLemmas.{fits_place}
 use Rattle.sh_find.proofs.before.lower_entered.Goals as goal
 

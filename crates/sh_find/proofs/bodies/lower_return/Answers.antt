@@ -3,8 +3,8 @@ use Rattle.sh_domain.specs.Facts.{facts}
 use Rattle.sh_domain.specs.Knowledge.{knowledge_facts}
 use Rattle.sh_domain.specs.Order.{IsWithin}
 use Rattle.sh_domain.specs.Sheets.{Sheet}
-use Rattle.sh_find.specs.Places.{claim_there}
-use Rattle.sh_find.specs.Sweeps.{Keeps}
+use Rattle.sh_drafts.specs.Places.{claim_there}
+use Rattle.sh_drafts.specs.Ready.{Keeps}
 use Rattle.sh_find.proofs.bodies.lower_return.Goals as goal
 
 pub lower_assured-requires-clause-stands : goal.lower_assured-requires-clause-stands

@@ -2,8 +2,8 @@ use Rattle.std.proofs.Common.{Some, ap, ◌≡◌, ◌∙◌}
 use Rattle.sh_domain.specs.Admitted.{functions_in}
 use Rattle.sh_rules.specs.Places.{slot_of}
 use Rattle.sh_rules.specs.Settings.{Setting}
-use Rattle.sh_find.specs.Places.{place_of}
-use Rattle.sh_find.specs.Spots.{place_at}
+use Rattle.sh_drafts.specs.Places.{place_of}
+use Rattle.sh_drafts.specs.Spots.{place_at}
 use Rattle.sh_find.proofs.BeforeLemmas.{spot_place}
 use Rattle.sh_find.proofs.bodies.place_in.Goals as goal
 

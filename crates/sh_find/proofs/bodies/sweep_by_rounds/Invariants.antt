@@ -1,4 +1,4 @@
-use Rattle.sh_find.specs.Sweeps.{IsSwept}
+use Rattle.sh_drafts.specs.Ready.{IsSwept}
 use Rattle.sh_find.proofs.bodies.sweep_by_rounds.Given as goal
 
 abbrev pub invariant-loop-round : goal.invariant-loop-round

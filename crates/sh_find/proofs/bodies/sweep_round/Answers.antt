@@ -1,4 +1,4 @@
-use Rattle.sh_find.proofs.SweepLemmas.{ready_again, swept_more}
+use Rattle.sh_drafts.proofs.ReadyLemmas.{ready_again, swept_more}
 use Rattle.sh_find.proofs.bodies.sweep_round.Goals as goal
 
 pub sweep_if_defined-requires : goal.sweep_if_defined-requires

@@ -1,4 +1,4 @@
-use Rattle.sh_find.specs.Sweeps.{IsSwept}
+use Rattle.sh_drafts.specs.Ready.{IsSwept}
 use Rattle.sh_find.proofs.bodies.sweep_round.Given as goal
 
 abbrev pub invariant-loop-command : goal.invariant-loop-command

@@ -1,4 +1,4 @@
-use Rattle.sh_find.proofs.SweepLemmas.{ready_again, swept_more}
+use Rattle.sh_drafts.proofs.ReadyLemmas.{ready_again, swept_more}
 use Rattle.sh_find.proofs.bodies.sweep_waiting.Goals as goal
 
 pub sweep_unit-requires : goal.sweep_unit-requires

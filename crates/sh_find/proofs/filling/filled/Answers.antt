@@ -7,9 +7,10 @@ use Rattle.sh_table.specs.Calls.{Table}
 use Rattle.sh_domain.specs.Reading.{AreLoops, loops_of}
 use Rattle.sh_domain.proofs.VariableLemmas.{read_names_variables}
 use Rattle.sh_domain.specs.Admitted.{functions_in}
-use Rattle.sh_find.specs.Working.{IsWorking}
+use Rattle.sh_drafts.specs.Working.{IsWorking}
 use Rattle.sh_find.proofs.FillLemmas.{begun_over, counts, has_stated, is_filled, stateable}
-use Rattle.sh_find.proofs.GreatestLemmas.{few_commands, numbered}
+use Rattle.sh_find.proofs.GreatestLemmas.{few_commands}
+use Rattle.sh_drafts.proofs.ReadyLemmas.{numbered}
 use Rattle.sh_find.proofs.filling.filled.Goals as goal
 
 pub overflow_cast-commands : goal.overflow_cast-commands

@@ -2,7 +2,7 @@ use Rattle.sh_tree.specs.standard.program.Trees.{parameter_of}
 use Rattle.sh_demands.specs.Knowing.{action_gains}
 use Rattle.sh_rules.specs.Settings.{gained}
 use Rattle.sh_rules.specs.Walks.{facts_in}
-use Rattle.sh_find.proofs.GreatestLemmas.{numbered}
+use Rattle.sh_drafts.proofs.ReadyLemmas.{numbered}
 use Rattle.sh_find.proofs.KnownLemmas.{facts_by, gains_known}
 use Rattle.sh_find.proofs.known.behind_action.Goals as goal
 

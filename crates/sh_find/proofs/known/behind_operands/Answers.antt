@@ -4,7 +4,7 @@ use Rattle.sh_domain.specs.Gains.{words_gains}
 use Rattle.sh_rules.specs.Walks.{facts_in}
 use Rattle.sh_rules.proofs.GainLemmas.{facts_gained}
 use Rattle.sh_find.specs.Sweeps.{setting_by}
-use Rattle.sh_find.proofs.GreatestLemmas.{numbered}
+use Rattle.sh_drafts.proofs.ReadyLemmas.{numbered}
 use Rattle.sh_find.proofs.KnownLemmas.{gains_known}
 use Rattle.sh_find.proofs.known.behind_operands.Goals as goal
 

@@ -1,6 +1,6 @@
 use Rattle.sh_rules.specs.Walks as walks
 use Rattle.sh_rules.specs.Walks.{facts_in}
-use Rattle.sh_find.proofs.GreatestLemmas.{numbered}
+use Rattle.sh_drafts.proofs.ReadyLemmas.{numbered}
 use Rattle.sh_find.proofs.KnownLemmas.{behind_by, pipe_known}
 use Rattle.sh_find.proofs.known.behind_pipe.Goals as goal
 

@@ -2,7 +2,7 @@ use Rattle.sh_tree.specs.standard.program.Trees.{parameter_of}
 use Rattle.sh_demands.specs.Judged.{inner_gains}
 use Rattle.sh_rules.specs.Settings.{gained}
 use Rattle.sh_rules.specs.Walks.{facts_in}
-use Rattle.sh_find.proofs.GreatestLemmas.{numbered}
+use Rattle.sh_drafts.proofs.ReadyLemmas.{numbered}
 use Rattle.sh_find.proofs.KnownLemmas.{facts_by}
 use Rattle.sh_find.proofs.WordLemmas.{operand_entered}
 use Rattle.sh_find.proofs.known.operand_of.Goals as goal

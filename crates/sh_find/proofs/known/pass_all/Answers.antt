@@ -1,6 +1,6 @@
 use Rattle.std.proofs.Common.{fold, refl, sym, ◌∙◌}
 use Rattle.sh_rules.specs.Walks.{behind_in, item_left}
-use Rattle.sh_find.proofs.GreatestLemmas.{numbered}
+use Rattle.sh_drafts.proofs.ReadyLemmas.{numbered}
 use Rattle.sh_find.proofs.KnownLemmas.{all_passed, behind_by, none_passed}
 use Rattle.sh_find.proofs.known.pass_all.Goals as goal
 

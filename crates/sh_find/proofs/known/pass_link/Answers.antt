@@ -1,6 +1,6 @@
 use Rattle.sh_rules.specs.Walks as walks
 use Rattle.sh_rules.specs.Walks.{behind_in}
-use Rattle.sh_find.proofs.GreatestLemmas.{numbered}
+use Rattle.sh_drafts.proofs.ReadyLemmas.{numbered}
 use Rattle.sh_find.proofs.KnownLemmas.{behind_by, link_known}
 use Rattle.sh_find.proofs.known.pass_link.Goals as goal
 

@@ -1,6 +1,6 @@
 use Rattle.std.proofs.Common.{refl}
 use Rattle.sh_rules.specs.Walks.{behind_in, item_left}
-use Rattle.sh_find.proofs.GreatestLemmas.{numbered}
+use Rattle.sh_drafts.proofs.ReadyLemmas.{numbered}
 use Rattle.sh_find.proofs.KnownLemmas.{behind_by, passed_on}
 use Rattle.sh_find.proofs.known.pass_on.Goals as goal
 

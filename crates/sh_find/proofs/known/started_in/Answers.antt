@@ -2,7 +2,7 @@ use Rattle.std.proofs.Common.{true}
 use Rattle.sh_domain.specs.Entries.{item_seen}
 use Rattle.sh_rules.specs.Behind.{started}
 use Rattle.sh_rules.specs.Walks.{facts_in}
-use Rattle.sh_find.proofs.GreatestLemmas.{numbered}
+use Rattle.sh_drafts.proofs.ReadyLemmas.{numbered}
 use Rattle.sh_find.proofs.KnownLemmas.{facts_by, started_known}
 use Rattle.sh_find.proofs.known.started_in.Goals as goal
 

@@ -1,6 +1,6 @@
 use Rattle.sh_domain.specs.Views.{AfterZero}
 use Rattle.sh_rules.specs.Settings.{known_at}
-use Rattle.sh_find.proofs.GreatestLemmas.{numbered}
+use Rattle.sh_drafts.proofs.ReadyLemmas.{numbered}
 use Rattle.sh_find.proofs.KnownLemmas.{facts_by, slot_known}
 use Rattle.sh_find.proofs.known.zero_of.Goals as goal
 

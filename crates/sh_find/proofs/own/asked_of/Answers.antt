@@ -4,7 +4,8 @@ use Rattle.sh_domain.specs.Knowledge.{knowledge_facts}
 use Rattle.sh_rules.specs.Walks as walks
 use Rattle.sh_rules.specs.Walks.{facts_in}
 use Rattle.sh_tree.specs.standard.program.Trees as trees
-use Rattle.sh_find.specs.Turns.{AreNumbers, IsQuiet, Stands, gathered_of}
+use Rattle.sh_drafts.specs.Turns.{AreNumbers, IsQuiet, Stands}
+use Rattle.sh_find.specs.Asked.{gathered_of}
 use Rattle.sh_find.proofs.MetLemmas.{one_numbers, one_quiet, one_stands}
 use Rattle.sh_find.proofs.PlacedLemmas.{own_part}
 use Rattle.sh_find.proofs.TurnLemmas.{new_numbers, new_quiet, new_stands}

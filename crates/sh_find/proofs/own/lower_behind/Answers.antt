@@ -1,4 +1,4 @@
-use Rattle.sh_find.proofs.SweepLemmas.{swept_more}
+use Rattle.sh_drafts.proofs.ReadyLemmas.{swept_more}
 use Rattle.sh_find.proofs.own.lower_behind.Goals as goal
 
 pub returns : goal.returns

@@ -1,7 +1,8 @@
 use Rattle.std.proofs.Common.{ap, length}
-use Rattle.sh_find.specs.Turns.{gathered_of}
+use Rattle.sh_find.specs.Asked.{gathered_of}
 use Rattle.sh_find.proofs.SideLemmas.{first_numbers, first_quiet, first_stands}
-use Rattle.sh_find.proofs.SweepLemmas.{sunk_swept, swept_same}
+use Rattle.sh_find.proofs.SweepLemmas.{sunk_swept}
+use Rattle.sh_drafts.proofs.ReadyLemmas.{swept_same}
 use Rattle.sh_find.proofs.own.lower_first.Goals as goal
 
 pub lower_gathered-requires-clause-working : goal.lower_gathered-requires-clause-working

@@ -1,6 +1,7 @@
 use Rattle.std.proofs.Common.{ap}
-use Rattle.sh_find.specs.Turns.{gathered_of}
-use Rattle.sh_find.proofs.SweepLemmas.{sunk_swept, swept_same}
+use Rattle.sh_find.specs.Asked.{gathered_of}
+use Rattle.sh_find.proofs.SweepLemmas.{sunk_swept}
+use Rattle.sh_drafts.proofs.ReadyLemmas.{swept_same}
 use Rattle.sh_find.proofs.own.lower_once.Goals as goal
 
 pub asked_of-gather-requires-clause-ready : goal.asked_of-gather-requires-clause-ready

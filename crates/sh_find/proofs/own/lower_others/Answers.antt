@@ -1,4 +1,4 @@
-use Rattle.sh_find.proofs.SweepLemmas.{ready_again, swept_more}
+use Rattle.sh_drafts.proofs.ReadyLemmas.{ready_again, swept_more}
 use Rattle.sh_find.proofs.own.lower_others.Goals as goal
 
 pub lower_once-requires-2-clause-ready : goal.lower_once-requires-2-clause-ready

@@ -1,9 +1,9 @@
 use Rattle.std.proofs.Common.{Some, length, subst}
 use Rattle.sh_domain.specs.Facts.{facts}
 use Rattle.sh_domain.specs.Order.{IsWithin}
-use Rattle.sh_find.specs.Kept.{IsNamed, seen_of}
-use Rattle.sh_find.specs.Numbers.{by_name}
-use Rattle.sh_find.specs.Places.{claim_there}
+use Rattle.sh_drafts.specs.Kept.{IsNamed, seen_of}
+use Rattle.sh_drafts.specs.Numbers.{by_name}
+use Rattle.sh_drafts.specs.Places.{claim_there}
 use Rattle.sh_find.proofs.SideLemmas.{second_free, second_named, second_stands}
 use Rattle.sh_find.proofs.own.lower_second.Goals as goal
 

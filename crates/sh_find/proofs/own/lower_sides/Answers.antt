@@ -1,4 +1,4 @@
-use Rattle.sh_find.proofs.SweepLemmas.{ready_again, swept_more}
+use Rattle.sh_drafts.proofs.ReadyLemmas.{ready_again, swept_more}
 use Rattle.sh_find.proofs.own.lower_sides.Goals as goal
 
 pub returns : goal.returns

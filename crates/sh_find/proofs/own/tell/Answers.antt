@@ -1,5 +1,5 @@
 use Rattle.std.proofs.Common.{true, false}
-use Rattle.sh_find.specs.Stated.{asking_by}
+use Rattle.sh_find.specs.Asked.{asking_by}
 use Rattle.sh_find.proofs.KnownLemmas.{told_by}
 use Rattle.sh_find.proofs.own.tell.Goals as goal
 

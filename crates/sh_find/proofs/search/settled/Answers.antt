@@ -12,14 +12,15 @@ use Rattle.sh_domain.specs.Reading.{AreLoops}
 use Rattle.sh_domain.specs.Reading.{loops_of}
 use Rattle.sh_domain.proofs.VariableLemmas.{read_names_variables}
 use Rattle.sh_domain.specs.Admitted.{claims_in, functions_in}
-use Rattle.sh_find.specs.Stated.{ClaimsStated, asked_bounds}
-use Rattle.sh_find.specs.Sweeps.{asked_of}
-use Rattle.sh_find.specs.Turns.{sheet_by}
-use Rattle.sh_find.specs.Working.{IsWorking}
-use Rattle.sh_find.specs.Starts.{start_of}
-use Rattle.sh_find.proofs.AboveLemmas.{first_above}
-use Rattle.sh_find.proofs.GreatestLemmas.{few_commands, is_greatest, numbered}
-use Rattle.sh_find.proofs.StartLemmas.{declared_start}
+use Rattle.sh_drafts.specs.Stated.{ClaimsStated, asked_bounds}
+use Rattle.sh_drafts.specs.Ready.{asked_of}
+use Rattle.sh_drafts.specs.Turns.{sheet_by}
+use Rattle.sh_drafts.specs.Working.{IsWorking}
+use Rattle.sh_drafts.specs.Starts.{start_of}
+use Rattle.sh_drafts.proofs.AboveLemmas.{first_above}
+use Rattle.sh_find.proofs.GreatestLemmas.{few_commands, is_greatest}
+use Rattle.sh_drafts.proofs.ReadyLemmas.{numbered}
+use Rattle.sh_drafts.proofs.StartLemmas.{declared_start}
 use Rattle.sh_find.proofs.StatedLemmas.{all_asked}
 use Rattle.sh_find.proofs.search.settled.Goals as goal
 

@@ -1,8 +1,8 @@
 use Rattle.std.proofs.Common.{sym, ap, ◌∙◌}
 use Rattle.sh_domain.specs.Knowledge.{knowledge_facts}
-use Rattle.sh_find.specs.Facts.{meet}
-use Rattle.sh_find.specs.Kept.{seen_of}
-use Rattle.sh_find.specs.Numbers.{by_number}
+use Rattle.sh_drafts.specs.Facts.{meet}
+use Rattle.sh_drafts.specs.Kept.{seen_of}
+use Rattle.sh_drafts.specs.Numbers.{by_number}
 use Rattle.sh_find.proofs.AskingLemmas.{with_nothing}
 use Rattle.sh_find.proofs.sides.meet_known.Goals as goal
 

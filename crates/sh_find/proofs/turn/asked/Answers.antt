@@ -1,12 +1,13 @@
 use Rattle.std.proofs.Common.{◌∙◌, ap}
 use Rattle.sh_tree.specs.standard.program.Trees.{script_of}
 use Rattle.sh_domain.specs.Rules.{script_bounds}
-use Rattle.sh_find.specs.Gathered.{all_gathered}
-use Rattle.sh_find.specs.Stated.{asked_bounds}
-use Rattle.sh_find.specs.Sweeps.{asked_of}
+use Rattle.sh_drafts.specs.Gathered.{all_gathered}
+use Rattle.sh_drafts.specs.Stated.{asked_bounds}
+use Rattle.sh_drafts.specs.Ready.{asked_of}
 use Rattle.sh_domain.specs.Admitted.{claims_in, functions_in}
-use Rattle.sh_find.specs.Turns.{gathered_of, sheet_by}
-use Rattle.sh_find.specs.Starts.{start_of}
+use Rattle.sh_find.specs.Asked.{gathered_of}
+use Rattle.sh_drafts.specs.Turns.{sheet_by}
+use Rattle.sh_drafts.specs.Starts.{start_of}
 use Rattle.sh_find.proofs.NextLemmas.{all_fitting, next_broken}
 use Rattle.sh_find.proofs.StayLemmas.{idle_whole}
 use Rattle.sh_find.proofs.TurnLemmas.{asked_numbers, asked_quiet, asked_rules, asked_stands}

@@ -1,7 +1,7 @@
 use Rattle.std.proofs.Common.{sym, ◌∙◌, true≢false}
-use Rattle.sh_find.specs.Turns.{gathered_of}
-use Rattle.sh_find.specs.Writable.{sets_in}
-use Rattle.sh_find.proofs.LowerLemmas.{both_fit, idle_both}
+use Rattle.sh_find.specs.Asked.{gathered_of}
+use Rattle.sh_drafts.specs.Writable.{sets_in}
+use Rattle.sh_drafts.proofs.LowerLemmas.{both_fit, idle_both}
 use Rattle.sh_find.proofs.TurnLemmas.{sunk_both, sunk_then, sunk_else}
 use Rattle.sh_find.proofs.turn.lower_gathered.Goals as goal
 

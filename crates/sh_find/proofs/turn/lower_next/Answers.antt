@@ -1,8 +1,8 @@
 use Rattle.sh_domain.specs.Admitted.{functions_in}
-use Rattle.sh_find.specs.Sweeps.{asked_of}
-use Rattle.sh_find.specs.Turns.{gathered_of}
-use Rattle.sh_find.specs.Starts.{start_of}
-use Rattle.sh_find.proofs.GreatestLemmas.{numbered}
+use Rattle.sh_drafts.specs.Ready.{asked_of}
+use Rattle.sh_find.specs.Asked.{gathered_of}
+use Rattle.sh_drafts.specs.Starts.{start_of}
+use Rattle.sh_drafts.proofs.ReadyLemmas.{numbered}
 use Rattle.sh_find.proofs.TurnLemmas.{sunk_turn}
 use Rattle.sh_find.proofs.turn.lower_next.Goals as goal
 

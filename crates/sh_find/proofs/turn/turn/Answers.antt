@@ -2,11 +2,12 @@ use Rattle.std.proofs.Common.{◌≡◌, false, inl, inr, sym, subst, true≢fal
 use Rattle.sh_domain.specs.declared.certificate.Certificate.{Certificate}
 use Rattle.sh_domain.specs.Admitted.{functions_in}
 use Rattle.sh_find.specs.Next.{IsBroken, IsOfScript}
-use Rattle.sh_find.specs.Sweeps.{asked_of}
-use Rattle.sh_find.specs.Turns.{IsTurn, gathered_of}
-use Rattle.sh_find.specs.Working.{IsWorking}
-use Rattle.sh_find.specs.Starts.{start_of}
-use Rattle.sh_find.proofs.GreatestLemmas.{numbered}
+use Rattle.sh_drafts.specs.Ready.{asked_of}
+use Rattle.sh_drafts.specs.Turns.{IsTurn}
+use Rattle.sh_find.specs.Asked.{gathered_of}
+use Rattle.sh_drafts.specs.Working.{IsWorking}
+use Rattle.sh_drafts.specs.Starts.{start_of}
+use Rattle.sh_drafts.proofs.ReadyLemmas.{numbered}
 use Rattle.sh_find.proofs.TurnLemmas.{sunk_turn}
 use Rattle.sh_find.proofs.turn.turn.Goals as goal
 

@@ -1,8 +1,8 @@
 use Rattle.sh_domain.specs.Certificates.{drops_of, in_byte_order}
 use Rattle.sh_domain.specs.NumberSets.{numbers_of}
 use Rattle.sh_rules.specs.Walks.{setting}
-use Rattle.sh_find.specs.Numbers.{numbers_in}
-use Rattle.sh_find.specs.Turns.{gathered_of}
+use Rattle.sh_drafts.specs.Numbers.{numbers_in}
+use Rattle.sh_find.specs.Asked.{gathered_of}
 use Rattle.sh_find.proofs.AskingLemmas.{sets_joined}
 use Rattle.sh_find.proofs.gather.Gather.lose.Goals as goal
 

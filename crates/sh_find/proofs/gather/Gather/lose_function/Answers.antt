@@ -1,7 +1,7 @@
 use Rattle.sh_domain.specs.NumberSets.{numbers_of}
 use Rattle.sh_rules.specs.Asking.{one_function}
-use Rattle.sh_find.specs.Numbers.{numbers_in}
-use Rattle.sh_find.specs.Turns.{gathered_of}
+use Rattle.sh_drafts.specs.Numbers.{numbers_in}
+use Rattle.sh_find.specs.Asked.{gathered_of}
 use Rattle.sh_find.proofs.AskingLemmas.{sets_joined, none_joined}
 use Rattle.sh_find.proofs.gather.Gather.lose_function.Goals as goal
 

@@ -1,8 +1,8 @@
 use Rattle.std.proofs.Common.{sym, ap, ◌∙◌}
 use Rattle.sh_rules.specs.Walks.{setting}
-use Rattle.sh_find.specs.Gathering.{with_sets}
-use Rattle.sh_find.specs.Numbers.{numbers_in}
-use Rattle.sh_find.specs.Turns.{gathered_of}
+use Rattle.sh_drafts.specs.Gathering.{with_sets}
+use Rattle.sh_drafts.specs.Numbers.{numbers_in}
+use Rattle.sh_find.specs.Asked.{gathered_of}
 use Rattle.sh_find.proofs.AskingLemmas.{entry_drops, none_drops, nothing_lost}
 use Rattle.sh_find.proofs.gather.Gather.lose_like.Goals as goal
 

@@ -1,9 +1,9 @@
 use Rattle.std.proofs.Common.{sym, ap, ◌∙◌}
 use Rattle.sh_domain.specs.Knowledge.{assured_facts, knowledge_facts}
-use Rattle.sh_find.specs.Kept.{seen_of}
-use Rattle.sh_find.specs.Gathering.{met}
-use Rattle.sh_find.specs.Numbers.{by_number}
-use Rattle.sh_find.specs.Turns.{gathered_of}
+use Rattle.sh_drafts.specs.Kept.{seen_of}
+use Rattle.sh_drafts.specs.Gathering.{met}
+use Rattle.sh_drafts.specs.Numbers.{by_number}
+use Rattle.sh_find.specs.Asked.{gathered_of}
 use Rattle.sh_find.proofs.AskingLemmas.{nothing_met, known_put}
 use Rattle.sh_find.proofs.gather.Gather.meet.Goals as goal
 

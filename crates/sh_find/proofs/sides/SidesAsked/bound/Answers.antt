@@ -1,6 +1,6 @@
 use Rattle.sh_rules.specs.Walks.{facts_in, setting}
 use Rattle.sh_find.specs.Sides.{sided_of}
-use Rattle.sh_find.specs.Turns.{gathered_of}
+use Rattle.sh_find.specs.Asked.{gathered_of}
 use Rattle.sh_find.proofs.SideLemmas.{side_here, side_away}
 use Rattle.sh_find.proofs.sides.SidesAsked.bound.Goals as goal
 
