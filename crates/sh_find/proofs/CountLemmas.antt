@@ -55,9 +55,9 @@ use Rattle.sh_drafts.specs.Starts.{start_of}
 use Rattle.sh_drafts.specs.Ready.{IsReady, Keeps}
 use Rattle.sh_drafts.specs.Turns.{sheet_by}
 use Rattle.sh_drafts.specs.Working.{claims}
-use Rattle.sh_find.proofs.AskingLemmas.{commands_numbered}
+use Rattle.sh_sweeps.proofs.AskingLemmas.{commands_numbered}
 use Rattle.sh_drafts.proofs.SheetLemmas.{claimed, placed}
-use Rattle.sh_find.proofs.StatedLemmas.{all_asked}
+use Rattle.sh_sweeps.proofs.StatedLemmas.{all_asked}
 use Rattle.sh_drafts.proofs.ReadyLemmas.{names_numbered}
 
 -- The places of counts

@@ -51,10 +51,10 @@ use Rattle.sh_drafts.specs.Turns.{sheet_by}
 use Rattle.sh_drafts.specs.Working.{IsWorking, Sets, claims, dropped, names_of, sets_of}
 use Rattle.sh_drafts.specs.Writable.{IsWritten}
 use Rattle.sh_drafts.proofs.ReadyLemmas.{numbered}
-use Rattle.sh_find.proofs.NextLemmas.{same_itself}
+use Rattle.sh_sweeps.proofs.NextLemmas.{same_itself}
 use Rattle.sh_drafts.proofs.SheetLemmas.{claim_is, claimed, claimed_by, drops_by, drops_placed, dropped_by, entered_by, fits_there, has_text, known_there, nonzero_by, placed, zero_by}
 use Rattle.sh_drafts.proofs.StartLemmas.{stated_start}
-use Rattle.sh_find.proofs.TurnLemmas.{stated_place}
+use Rattle.sh_sweeps.proofs.TurnLemmas.{stated_place}
 
 -- The sheet of what is stated
 

@@ -1,12 +1,8 @@
 -- What is found is the greatest certificate.
-use Rattle.std.proofs.Common.{◌≡◌, ℕ, ◌+◌, ◌<◌, ◌≤◌, cond, Bool, true, false, Option, List, [], map, length, refl, sym, subst, arith, flat_map, true≢false}
-use Rattle.std.specs.Borrow.{Bor}
-use Rattle.std.specs.List.Sorted.{IsPermutation}
-use Rattle.sh_tree.specs.declared.tree.Command.{Command}
+use Rattle.std.proofs.Common.{◌≡◌, ℕ, ◌+◌, ◌<◌, ◌≤◌, cond, Bool, true, false, Option, List, [], length, refl, sym, subst, arith, flat_map, true≢false}
 use Rattle.sh_tree.specs.declared.tree.Script.{Script}
 use Rattle.sh_tree.specs.standard.program.Syntax.{Text}
 use Rattle.sh_tree.specs.standard.program.Trees.{script_of}
-use Rattle.sh_tree.specs.Commands.{commands_of}
 use Rattle.sh_domain.specs.declared.certificate.Certificate as kept
 use Rattle.sh_domain.specs.Facts.{Declared, start_facts}
 use Rattle.sh_domain.specs.Faults.{faults, broken}
@@ -20,21 +16,11 @@ use Rattle.sh_drafts.specs.declared.place.Place.{Place}
 use Rattle.sh_drafts.specs.Places.{claim_there}
 use Rattle.sh_drafts.specs.Turns.{sheet_by, IsTurn, StatedStays}
 use Rattle.sh_drafts.specs.Working.{IsWorking, height}
-use Rattle.sh_find.proofs.LoopsLemmas.{all_counted}
 use Rattle.sh_drafts.proofs.SheetLemmas.{fits_there, has_text, known_there}
-use Rattle.sh_rules.proofs.AboveLemmas.{above}
 use Rattle.sh_drafts.specs.declared.subject.Subject.{Subject}
 use Rattle.sh_drafts.specs.Ready.{asked_of, IsOver, IsReady, IsSettled, IsSwept}
 use Rattle.sh_drafts.specs.Starts.{start_of}
-use Rattle.sh_drafts.proofs.ReadyLemmas.{numbered}
-
--- a script that is admitted has no more commands than a text of a certificate may have
-pub few_commands : (b : List ℕ) (d : Declared) (t : Script) (names : List Text) → IsAdmitted b d t names → (cs : List (Bor Command)) → IsPermutation (commands_of t) (map (λ (c : Bor Command). c.now) cs)
-    → length cs ≤ 65535
-few_commands b d t names a cs same =
-    let all = all_counted b t a.reading.1.0 a.reading.1.1 cs same in
-    let few = a.reading.1.2 in
-    omega (arith, all, few)
+use Rattle.sh_drafts.proofs.ReadyLemmas.{numbered, stays_more, stays_none}
 
 -- Turns one after the other
 
@@ -73,13 +59,13 @@ module _ (s : Subject) where
       record {
         working = λ loops m is. (turn loops m (w.working loops m (t.working loops m is))).working;
         over = λ other keeps. first.above other keeps.fit keeps.rules (w.over other keeps);
-        stays = λ e. stays_more old swept new (stays_more old mid swept (t.stays e) (w.stays e)) (first.stays e);
+        stays = λ e. stays_more s old swept new (stays_more s old mid swept (t.stays e) (w.stays e)) (first.stays e);
         probe = probe;
         rules = first.rules;
       }
 
   pub turned_none : (c : kept.Certificate) (n : ℕ) → IsReady s c n → IsTurned c c n false
-  turned_none c n r = record { working = λ loops m w. w; over = r.over; stays = λ e. stays_none c; probe = r.probe; rules = λ e. absurd (true≢false (sym e)) }
+  turned_none c n r = record { working = λ loops m w. w; over = r.over; stays = λ e. stays_none s c; probe = r.probe; rules = λ e. absurd (true≢false (sym e)) }
 
   -- a turn after a sweep lowers
   pub swept_less : (loops : List Bool) (m : ℕ) (old mid new : kept.Certificate) (n : ℕ) (done : Bool) → IsWorking s.names.now loops m old → IsSwept s old mid n → Turns loops m mid new done
