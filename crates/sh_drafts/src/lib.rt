@@ -3,7 +3,7 @@
 #![tactic(auto)]
 
 mod assured;
-mod begun;
+pub mod begun;
 mod draft;
 mod first;
 pub mod inner;
@@ -21,7 +21,6 @@ mod wakes;
 mod writable;
 
 pub use assured::{lower_assured, lower_at};
-pub use begun::begun;
 pub use draft::{Draft, rest_after};
 pub use first::unreached;
 pub use place::{Part, Place};

@@ -14,7 +14,8 @@ ghost use Rattle.sh_domain.specs.Filled.{FillsTo};
 
 use crate::search::{Way, settle};
 use sh_domain::{Certificate, Compact, Names, Policy};
-use sh_drafts::{Draft, Subject, Writable, begun};
+use sh_drafts::begun::begun;
+use sh_drafts::{Draft, Subject, Writable};
 use sh_rows::{BitRow, Row};
 use sh_table::CallTable;
 use sh_tree::{Script, commands};

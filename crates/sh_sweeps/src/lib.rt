@@ -15,8 +15,7 @@ mod sides;
 mod slots;
 mod stated;
 mod sweep;
-mod turn;
+pub mod turn;
 mod words;
 
 pub use bodies::{sweep_by_rounds, sweep_round, sweep_waiting};
-pub use turn::turn;
