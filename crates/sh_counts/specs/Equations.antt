@@ -27,7 +27,8 @@ pub record Solution (es : Equations) (v : ℕ → ℕ) : Type 0 where
   pub below : (i : ℕ) → v i ≤ worth es.most.items i
   pub solves : All (Holds v) es.all.items
 
--- the greatest numbers that solve the equations; an equation of a count that is not there bounds none
+-- the greatest numbers that solve the equations. An equation of a count that is not there bounds
+-- none
 pub record IsGreatest (es : Equations) (counts : List ℕ) : Type 0 where
   pub sized : length counts ≡ length es.most.items
   pub above : (v : ℕ → ℕ) → Solution es v → (i : ℕ) → v i ≤ worth counts i

@@ -1,4 +1,5 @@
--- What a simple command requires of counts after it, and at the entry of the function that it calls.
+-- What a simple command requires of counts after it, and at the entry of the function that it
+-- calls.
 use Rattle.std.proofs.Common.{◌≡◌, ℕ, zero, suc, ◌+◌, ◌-◌, ◌*◌, ◌<◌, ◌≤◌, min, max, drop, fold, map, take, get_or, length, Bool, true, false, not, ◌&&◌, if◌then◌else◌, List, [], ◌∷◌, ◌++◌, append_assoc, Option, Some, None, is_some, unwrap_or, option_map, IfSome, ⊎_elim, refl, sym, ap, ap₂, ◌∙◌, subst, arith, true≢false}
 use Rattle.std.proofs.Math.Nat.{mul-le-mul_left}
 use Rattle.std.proofs.lemmas.Bool.{cases_lt}

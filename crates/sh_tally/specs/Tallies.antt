@@ -33,7 +33,8 @@ pub record IsTallied (places : Places) (u : ℕ → ℕ) (es : Equations) : Type
 abbrev pub Tallies : Places → (ℕ → ℕ) → Equations → Equations → Type 0
 Tallies places u old new = IsTallied places u old → IsTallied places u new
 
--- if runs come to both places, the number at the one is at most what the change makes of what the view sees
+-- if runs come to both places, the number at the first is at most what the change makes of what the
+-- view sees
 abbrev pub Bounds : Places → (ℕ → ℕ) → Count → Change → View → Type 0
 Bounds places u place change w =
     (a b : ℕ) → claimed places place.index ≡ Some a → claimed places w.source.index ≡ Some b → u place.index ≤ made change (max (u w.source.index) w.least)

@@ -42,7 +42,8 @@ index_of commands functions (ReturnsZero f) = option_map (function_index command
 index_of commands functions (ReturnsNonzero f) = option_map (function_index commands end.Nonzero) (number_of functions f)
 
 module _ (commands : ℕ) (functions : List Text) where
-  -- the view is of a slot, and its steps have no call and leave at most the greater of the slot's count and the least one
+  -- the view is of a slot, and its steps have no call and leave at most the greater of the slot's
+  -- count and the least one
   pub record Shows (h : View) (v : views.View) : Type 0 where
     pub slot : Slot
     pub source : v.source ≡ At slot

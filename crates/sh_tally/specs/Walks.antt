@@ -1,5 +1,5 @@
--- What a walk over a script for its counts does. It adds equations, and each certificate that keeps the flow rules solves them. It leaves views of
--- what is known after what it went over.
+-- What a walk over a script for its counts does. It adds equations, and each certificate that keeps
+-- the flow rules solves them. It leaves views of what is known after what it went over.
 -- POSIX.1-2024, XCU 2.5.1 (positional parameters), 2.9 (shell commands).
 use Rattle.std.specs.Prelude.{◌≡◌, ℕ, ◌≤◌, max, map, option_map, List, Some, [], ◌++◌, flat_map}
 use Rattle.sh_tree.specs.declared.tree.ClauseEnd.{ClauseEnd}
@@ -58,7 +58,8 @@ module _ (s : Tally) where
   HasTexts (p.command n offset (p.Simple es) rs) = AreTexts n es
   HasTexts _ = Unit {0}
 
-  -- The numbers are the counts of a certificate that keeps all rules of the script. By it a run comes to each place at which a count is claimed
+  -- The numbers are the counts of a certificate that keeps all rules of the script. By it a run
+  -- comes to each place at which a count is claimed
   pub record Keeps (t : p.Items) (u : ℕ → ℕ) : Type 0 where
     -- the table is that of the script
     pub functions : (f : Text) → is_one_of (functions_of (script_entered t)) f ≡ is_one_of names f
