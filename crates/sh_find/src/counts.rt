@@ -214,14 +214,10 @@ fn solved(
     requires claimed { AreClaimed certificate.now claimed.now }
     ensures { IfOk result (λ counts. AreOverAll subject.now claimed.now counts.items) }
 {
-    let places = Places {
-        commands: u16::try_from(certificate.entries.len()).unwrap_or(u16::MAX),
-        counts: claimed,
-    };
     let tally = Tally {
         script: subject.script,
         table: subject.table,
-        places,
+        places: Places { counts: claimed },
     };
     tally.lowered(alloc, subject.tree)
 }
