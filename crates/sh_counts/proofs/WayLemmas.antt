@@ -18,7 +18,7 @@ high_end l u a b c ordered more less = omega arith
 between : (l u a b c : ℕ) → l ≤ u → a ≤ c → c ≤ b → max (max l (min u a)) (min (max l (min u b)) c) ≡ max l (min u c)
 between l u a b c ordered low high = omega arith
 
--- a way behind another one
+-- a way after another one
 pub way_behind : (t p m l u t1 p1 m1 l1 u1 n : ℕ) → l ≤ u → l1 ≤ u1
     → made_by (t * t1) (t * p1 + p) (t * m1 + m) (made_by t p m l u l1) (made_by t p m l u u1) n ≡ made_by t p m l u (made_by t1 p1 m1 l1 u1 n)
 way_behind t p m l u t1 p1 m1 l1 u1 n ordered ordered1 =

@@ -13,7 +13,7 @@ made (Raise least) count = max count least
 made (Shift gone) count = count - gone
 made (Words ones parameters) count = min 65535 (ones + parameters * count)
 
--- the numbers have the count at most what the equation makes of its source
+-- with these numbers the count is at most what the equation makes of its source
 abbrev pub Holds : (ℕ → ℕ) → Equation → Type 0
 Holds v e = v e.count.index ≤ made e.change (v e.source.index)
 
@@ -21,13 +21,14 @@ Holds v e = v e.count.index ≤ made e.change (v e.source.index)
 abbrev pub worth : List ℕ → ℕ → ℕ
 worth counts i = get_or counts i 65535
 
--- numbers that may be counts, each at most what it is at first, of which all equations hold
+-- numbers that may be counts, each at most what it is at first, that solve all equations
 pub record Solution (es : Equations) (v : ℕ → ℕ) : Type 0 where
   pub few : (i : ℕ) → v i ≤ 65535
   pub below : (i : ℕ) → v i ≤ worth es.most.items i
   pub solves : All (Holds v) es.all.items
 
--- the greatest: an equation of a count that is not there bounds none
+-- the greatest numbers that solve the equations. An equation of a count that is not there bounds
+-- none
 pub record IsGreatest (es : Equations) (counts : List ℕ) : Type 0 where
   pub sized : length counts ≡ length es.most.items
   pub above : (v : ℕ → ℕ) → Solution es v → (i : ℕ) → v i ≤ worth counts i

@@ -9,7 +9,7 @@ use Rattle.sh_counts.specs.declared.falling.Falling.{Falling}
 use Rattle.sh_counts.specs.Equations.{Holds, Solution, worth}
 use Rattle.sh_counts.specs.Ways.{made_by}
 
--- each solution has the equation hold
+-- the equation holds in each solution
 abbrev pub Follows : Equations → Equation → Type 0
 Follows es e = (v : ℕ → ℕ) → Solution es v → Holds v e
 
@@ -31,6 +31,6 @@ pub record Fell (old new : List ℕ) : Type 0 where
 abbrev pub IsSettled : List ℕ → List Equation → Type 0
 IsSettled counts equations = All (λ e. e.count.index < length counts → Holds (worth counts) e) equations
 
--- in each solution the one count is at most what the way makes of the other one
+-- in each solution the count `to` is at most what the way makes of the count `from`
 abbrev pub Leads : Equations → Way → ℕ → ℕ → Type 0
 Leads es way to from = (v : ℕ → ℕ) → Solution es v → v to ≤ made_by way.times way.plus way.minus way.least way.most (v from)

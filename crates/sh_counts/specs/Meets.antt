@@ -20,7 +20,8 @@ pub record IsFresh (old new : Equations) (count : Count) : Type 0 where
 abbrev pub equation : Count → Count → Change → Equation
 equation count source change = record { count = count; source = source; change = change }
 
--- the count is what the change makes of the source: the source itself, or a new one with its equation
+-- the count is what the change makes of the source: the source itself, or a new one with its
+-- equation
 abbrev pub Changes : Equations → Equations → Count → Change → Count → Type 0
 Changes old new source change count =
     ((change ≡ Raise 0) × (count ≡ source) × Same old new)

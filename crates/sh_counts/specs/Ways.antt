@@ -1,7 +1,7 @@
--- What changes one after another make of a count.
+-- What a row of changes makes of a count.
 -- POSIX.1-2024, XCU 2.5.1 (positional parameters).
 use Rattle.std.specs.Prelude.{ℕ, ◌+◌, ◌-◌, ◌*◌, min, max}
 
--- so many times the count, with so many more and then less, within a least and a greatest count
+-- a multiple of the count, plus a number, less a number, within a least and a greatest count
 abbrev pub made_by : ℕ → ℕ → ℕ → ℕ → ℕ → ℕ → ℕ
 made_by times plus minus least most count = max least (min most (times * count + plus - minus))

@@ -5,8 +5,8 @@ ghost use Rattle.sh_counts.specs.Ways.{made_by};
 
 use crate::equations::Change;
 
-/// What changes one after another make of a count: so many times it, with so many more and then so
-/// many less, within a least and a greatest count.
+/// What a row of changes makes of a count: a multiple of it, plus a number, less a number, within a
+/// least and a greatest count.
 #[derive(Clone, Copy, Debug, PartialEq, Eq)]
 pub struct Way {
     times: u32,
@@ -18,7 +18,7 @@ pub struct Way {
 }
 
 impl Way {
-    /// One change.
+    /// The way of one change.
     #[tactic(auto, unfolding(crate::specs::Equations::made))]
     pub fn of(change: Change) -> Way
         ensures { (n : ℕ) → n ≤ 65535 → made_by result.times result.plus result.minus result.least result.most n ≡ made change n }
@@ -46,7 +46,7 @@ impl Way {
         }
     }
 
-    // What it makes of a count.
+    // What the way makes of a count.
     fn made(self, count: u16) -> u16
         ensures { result ≡ made_by self.times self.plus self.minus self.least self.most count }
     {
@@ -55,7 +55,7 @@ impl Way {
         line.min(u64::from(self.most)).max(u64::from(self.least)) as u16
     }
 
-    /// What a change makes first and this way then, if its numbers do not overflow.
+    /// The way that makes a change first and then those of this way. None if a number overflows.
     pub fn behind(self, change: Change) -> Option<Way>
         ensures { IfSome result (λ way. (n : ℕ) → n ≤ 65535 → made_by way.times way.plus way.minus way.least way.most n ≡ made_by self.times self.plus self.minus self.least self.most (made change n)) }
     {
@@ -77,8 +77,9 @@ impl Way {
         })
     }
 
-    /// A bound on each count up to this one that is at most what the way makes of it. It is what the
-    /// way makes of this count, or the least count that the way makes if the way takes that lower.
+    /// A bound of each count up to this one that is at most what the way makes of it. The bound is
+    /// what the way makes of this count. If the way lowers that again, it is the least that the way
+    /// makes.
     pub fn greatest(self, count: u16) -> u16
         ensures { (n : ℕ) → n ≤ count → n ≤ made_by self.times self.plus self.minus self.least self.most n → n ≤ result }
     {

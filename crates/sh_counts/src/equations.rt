@@ -1,29 +1,29 @@
-//! Equations over numbers of positional parameters, with no set of names (XCU 2.5.1).
+//! Equations over counts of positional parameters. They have no set of names (XCU 2.5.1).
 ghost use Rattle.std.specs.Prelude.{◌≡◌, ◌++◌, ◌∷◌, [], length, IfOk, OnOk, OnErr};
 ghost use Rattle.sh_counts.specs.Equations.{made};
 ghost use Rattle.sh_counts.specs.Meets.{Changes, IsLesser, Meets};
 
 use std::alloc::{AllocError, Global};
 
-/// An unknown count, by its place among those of its equations.
+/// An unknown count, by its index among those of its equations.
 #[derive(Clone, Copy, Debug, PartialEq, Eq)]
 pub struct Count {
     pub index: usize,
 }
 
-/// What happens to a count on the way from one place to another.
+/// What happens to a count on the way from one place of a script to another.
 #[derive(Clone, Copy, Debug, PartialEq, Eq)]
 pub enum Change {
-    /// There are at least so many.
+    /// There are at least so many afterwards.
     Raise(u16),
-    /// So many are gone, or all.
+    /// So many are gone, or all if there are fewer (`shift`, XCU 2.15).
     Shift(u32),
-    /// The parameters are now words: so many that give one each, and so many that give all there
-    /// were. There are at most 65,535.
+    /// Words become the parameters, as in `set` or a call: so many give one each, and so many give
+    /// all that there were. There are at most 65,535.
     Words { ones: u32, parameters: u32 },
 }
 
-/// A count is at most what a change makes of another one.
+/// A count is at most what a change makes of another count.
 #[derive(Clone, Copy, Debug, PartialEq, Eq)]
 pub struct Equation {
     pub count: Count,
@@ -34,7 +34,7 @@ pub struct Equation {
 /// Unknown counts, and equations over them.
 #[derive(Drop)]
 pub struct Equations {
-    // What each count is at most, whatever the others are.
+    // The bound of each count that no equation gives.
     most: Vec<u16>,
     all: Vec<Equation>,
 }
@@ -43,7 +43,7 @@ impl Change {
     /// The same count.
     pub const NONE: Change = Change::Raise(0);
 
-    /// What it makes of a count.
+    /// What the change makes of a count.
     #[tactic(auto, unfolding(crate::specs::Equations::made))]
     pub fn of(self, count: u16) -> u16
         ensures { result ≡ made self count }
@@ -71,7 +71,7 @@ impl Equations {
         }
     }
 
-    /// What each count is at most, whatever the others are.
+    /// The bound of each count that no equation gives.
     pub fn most(&self) -> &[u16]
         ensures { result.now ≡ self.now.most.items }
     {
@@ -85,7 +85,7 @@ impl Equations {
         self.all.as_slice()
     }
 
-    /// One more unknown count, of at most so many.
+    /// Adds an unknown count of at most so many.
     ///
     /// # Errors
     ///
@@ -101,7 +101,7 @@ impl Equations {
         Ok(Count { index })
     }
 
-    /// A count is at most what is made of another one.
+    /// Adds the equation that a count is at most what a change makes of the source.
     ///
     /// # Errors
     ///
@@ -119,7 +119,8 @@ impl Equations {
         Ok(())
     }
 
-    /// What is made of a count.
+    /// The count that a change makes of the source: the source itself, or a new unknown count with
+    /// its equation.
     ///
     /// # Errors
     ///
@@ -135,7 +136,7 @@ impl Equations {
         Ok(count)
     }
 
-    /// The lesser of the counts of two places, of those to which a run may come.
+    /// The lesser of the counts of two places. A place to which no run comes has none.
     ///
     /// # Errors
     ///

@@ -68,7 +68,7 @@ impl Falling {
         }
     }
 
-    // Puts a count that fell into the queue, unless it is there.
+    // Puts a count that fell into the queue, unless it is in it.
     fn wait(&mut self, index: usize) -> Result<(), AllocError>
         ensures counts { self.new.counts ≡ self.old.counts }
         ensures reasons { self.new.reasons ≡ self.old.reasons }
@@ -80,7 +80,7 @@ impl Falling {
         Ok(())
     }
 
-    // The count that waits longest.
+    // Takes the count that waits longest from the queue.
     fn take(&mut self) -> Option<usize>
         ensures counts { self.new.counts ≡ self.old.counts }
         ensures reasons { self.new.reasons ≡ self.old.reasons }
@@ -162,8 +162,8 @@ impl Falling {
         Ok(has_fallen)
     }
 
-    // A count of the circle of reasons to which those of this one lead, if they meet no count that
-    // was marked before. Each count that they meet is marked.
+    // Follows the reasons from a count, and marks each count that they meet. Returns a count of the
+    // circle that they end in, if there is one and no count was marked by an earlier call.
     fn circle(&self, marks: &mut [Option<usize>], index: usize) -> Option<usize> {
         let mut at = index;
         for _ in 0..self.counts.len() {
@@ -177,7 +177,7 @@ impl Falling {
         Some(at)
     }
 
-    // What the changes of a circle of reasons make of a count of it.
+    // What the changes of the circle of reasons through a count make of it.
     #[tactic(auto, using(crate::proofs::FallLemmas::leads_one, crate::proofs::FallLemmas::leads_more))]
     fn way(&self, index: usize) -> Option<Way>
         ensures { IfSome result (λ way. (es : declared.Equations) → IsSound es self.now.counts.items self.now.reasons.items → Leads es way index index) }
@@ -213,7 +213,7 @@ impl Falling {
         Ok(())
     }
 
-    // Lowers a count of each circle of reasons, which could else fall by one each time round.
+    // Lowers one count of each circle of reasons. Else it could fall by one each time round.
     #[tactic(auto, using(crate::proofs::FallLemmas::fell_none, crate::proofs::FallLemmas::fell_more))]
     fn lower_circles(&mut self, alloc: Global) -> Result<(), AllocError>
         ensures sound { OnOk result ((es : declared.Equations) → StaysSound es self.old self.new) }
@@ -229,7 +229,7 @@ impl Falling {
         Ok(())
     }
 
-    // Looks for circles if as many counts fell since as there are.
+    // Looks for circles if counts fell more often since the last look than there are counts.
     #[tactic(auto, using(crate::proofs::FallLemmas::fell_none))]
     fn look_round(&mut self, alloc: Global) -> Result<(), AllocError>
         ensures sound { OnOk result ((es : declared.Equations) → StaysSound es self.old self.new) }
@@ -241,8 +241,8 @@ impl Falling {
         Ok(())
     }
 
-    // Takes one count from the queue, and lowers those that take from it. Returns whether there was
-    // one.
+    // Takes one count from the queue, and lowers those whose equations take from it. Returns
+    // whether there was one.
     #[tactic(auto, using(crate::proofs::FallLemmas::fell_more))]
     fn step(&mut self, alloc: Global, users: &Users) -> Result<bool, AllocError>
         ensures sound { OnOk result ((es : declared.Equations) → All (Follows es) users.now.equations.items → StaysSound es self.old self.new) }
@@ -281,7 +281,7 @@ fn no_marks(alloc: Global, length: usize) -> Result<Vec<Option<usize>>, AllocErr
     Ok(marks)
 }
 
-/// The greatest counts of which all equations hold, by their places.
+/// The greatest counts that solve all equations, by index.
 ///
 /// # Errors
 ///

@@ -9,13 +9,13 @@ use std::alloc::Global;
 /// that is there takes no memory.
 #[derive(Drop)]
 pub struct Draft {
-    /// What memory comes from.
+    /// The allocator of all memory.
     pub alloc: Global,
     pub certificate: Certificate,
     pub probe: BitRow,
     /// How often it was lowered so far: a hint.
     pub lowered: u64,
-    /// After so many times that it was lowered, the counts are solved apart: a hint.
+    /// If it was lowered more often than this, the counts are solved apart: a hint.
     pub rest: u64,
     /// How often the flow rules of a command were gone through so far: nothing depends on it.
     pub looks: u64,
@@ -25,10 +25,11 @@ pub struct Draft {
     pub waiting: Waiting,
 }
 
-// By how many times for each command a certificate is lowered until the counts are solved apart.
+// How often a certificate is lowered for each command until the counts are solved apart.
 const TIMES: u64 = 16;
 
-/// After how many times a certificate of so many commands rests, if it was lowered so often: a hint.
+/// How often a certificate of so many commands may be lowered until the counts are solved apart, if
+/// it was lowered so often so far: a hint.
 pub fn rest_after(lowered: u64, commands: usize) -> u64 {
     let times = (commands as u64).saturating_add(8).saturating_mul(TIMES);
     lowered.saturating_add(times)

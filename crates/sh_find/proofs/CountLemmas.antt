@@ -132,7 +132,7 @@ abbrev args_in : Facts → ℕ
 args_in NotReached = 0
 args_in (Known v f a) = a
 
--- what is claimed, where a count is, and no more than that
+-- what is claimed if a count is, and no more than that
 abbrev count_in : Option ℕ → Facts → ℕ
 count_in None f = 0
 count_in (Some a) f = min a (args_in f)
@@ -203,7 +203,7 @@ module _ (s : Subject) (c : kept.Certificate) (n : ℕ) (ready : IsReady s c n) 
   abbrev u : ℕ → ℕ
   u i = count_in (get_or cs i None) (there i)
 
-  -- where a run comes by the certificate, one comes by the other
+  -- if a run comes there by the certificate, one comes by the other certificate
   reached : (slot : Slot) (q : Place) (a : ℕ) → place_of functions slot ≡ Some q → args_at c q ≡ Some a → HasAtMost a (facts (claim_there other (Some q)))
   reached slot q a place args =
       let own = claimed s.names.now (names_numbered s c n ready) ready.loops ready.functions c ready.working q in
@@ -250,7 +250,7 @@ module _ (s : Subject) (c : kept.Certificate) (n : ℕ) (ready : IsReady s c n) 
     at_most solved over i a here slot place =
         count_most (get_or cs i None) (there i) a (worth solved i) here (reached slot (count_place i) a place (are i a here)) (over u keeps_tally i a (ap (λ (l : List (Option ℕ)). get_or l i None) counts ∙ here))
 
--- so no certificate that keeps the rules has more parameters where they are lowered to what is solved
+-- so no certificate that keeps the rules has more parameters at a place than what is solved
 pub over_all : (s : Subject) (c : kept.Certificate) (n : ℕ) → IsReady s c n → s.stated ≡ false → (cs : List (Option ℕ)) → AreClaimed c cs → (y : Tally) → y.script.now ≡ s.script.now
     → y.table.now ≡ table_of s.script.now s.tree.now → y.places.counts.now ≡ cs → (counts : List ℕ) → AreOver y (script_of s.script.now s.tree.now) counts → AreOverAll s cs counts
 over_all s c n ready free cs are y script table counts solved over i a here other keeps slot place = at_most s c n ready free cs are other keeps y script table counts solved over i a here slot place

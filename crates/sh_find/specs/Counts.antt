@@ -1,4 +1,5 @@
--- The counts of positional parameters that a certificate claims, in the order of the tally: seven for each number.
+-- The counts of positional parameters that a certificate claims, in the order of the tally: seven
+-- for each number.
 -- POSIX.1-2024, XCU 2.5.1 (positional parameters).
 use Rattle.std.specs.Prelude.{◌≡◌, ℕ, zero, suc, ◌-◌, ◌/◌, ◌%◌, List, Option, Some, None, get_or, option_and_then}
 use Rattle.sh_domain.specs.declared.certificate.Certificate as kept

@@ -1,4 +1,4 @@
-//! The counts of positional parameters are solved apart, as equations with no set of names.
+//! The counts of positional parameters are solved apart from the sets of names (XCU 2.5.1).
 ghost use Rattle.std.specs.Prelude.{◌≡◌, ℕ, true, false, length, get_or, Option, Some, None, IfOk, IfSome};
 ghost use Rattle.sh_domain.specs.Facts as domain;
 ghost use Rattle.sh_domain.specs.Knowledge.{AreNumbered};
@@ -19,7 +19,7 @@ use sh_drafts::{Draft, Part, Place, Sight, Subject, fitting, note_place};
 use sh_tally::{Places, Tally};
 use std::alloc::{AllocError, Global};
 
-// How many counts there are of each number: of a command, and of a function.
+// How many counts each number has: four of the command, and three of the function.
 const PARTS: usize = 7;
 
 // The part of a command or of a function by its rank.
@@ -145,7 +145,7 @@ fn claim_at(claimed: &[Option<u16>], count: usize) -> Option<u16>
     }
 }
 
-// The count that is solved.
+// The count that solves the equations. One that is not there is not bounded.
 fn solved_at(counts: &[u16], count: usize) -> u16
     ensures { result ≡ worth counts.now count }
 {
@@ -178,6 +178,7 @@ fn lower_claimed(
     lower_count(subject, draft, place, args)
 }
 
+// Lowers each count that is claimed to the one that solves the equations.
 fn lower_all(
     subject: &Subject<'_>,
     draft: &mut Draft,
@@ -195,7 +196,8 @@ fn lower_all(
     Ok(())
 }
 
-// No certificate that keeps the rules has a greater count where these are claimed.
+// The counts that solve the equations of a script. No certificate that keeps the rules claims a
+// greater one at such a place.
 fn solved(
     alloc: Global,
     subject: &Subject<'_>,
@@ -215,7 +217,8 @@ fn solved(
     tally.lowered(alloc, subject.tree)
 }
 
-/// Lowers the count at each place to the greatest that the equations of the script allow.
+/// Lowers the count at each place to the greatest that the equations of the script allow. The sets
+/// of names stay. If a compact certificate states claims, it lowers nothing.
 ///
 /// # Errors
 ///

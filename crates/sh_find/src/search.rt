@@ -36,7 +36,8 @@ pub enum Way {
     Once,
 }
 
-// Sweeps over the commands that wait. If it takes long, the counts are solved apart.
+// Sweeps over the commands that wait. If that lowers the certificate often, it solves the counts
+// apart and sweeps again.
 fn sweep_by_need(subject: &Subject<'_>, draft: &mut Draft) -> Result<(), AllocError>
     requires { IsReady subject.now draft.old.certificate draft.old.probe.count }
     ensures { IfOk result (λ unit. IsSwept subject.now draft.old.certificate draft.new.certificate draft.new.probe.count) }

@@ -197,8 +197,8 @@ fn sweep_unit(subject: &Subject<'_>, draft: &mut Draft, unit: Unit) -> Result<()
 }
 
 /// Lowers a certificate at the commands that wait until none does, or until the counts are to be
-/// solved apart. A sweep is a hint: its clause is
-/// true of one that lowers nothing too. The turns after it lower what it leaves.
+/// solved apart. A sweep is a hint: its clause is true of one that lowers nothing too. The turns
+/// after it lower what it leaves.
 ///
 /// # Errors
 ///

@@ -30,7 +30,7 @@ meet_second n NotReached g h = h
 meet_second n (Known v f a) NotReached h = absurd h
 meet_second n (Known v f a) (Known w g b) h = omega (arith, h)
 
--- behind a call
+-- after a call
 called_at_most : (n m : ℕ) (d : Names) (r : Facts) (function : Text) (names : List Text) (f : Facts) → HasAtMost m r → HasAtMost n f → HasAtMost n (called d r function names f)
 unfolding HasAtMost called where_known returned
 called_at_most n m d r function names NotReached at h = absurd h

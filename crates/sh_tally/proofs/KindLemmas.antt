@@ -45,7 +45,7 @@ unfolding Each
 each_first P x xs all = all.0
 
 module _ (s : Tally) (y : Around) where
-  -- what the rules ask of a command by its kind
+  -- what the rules require of a command by its kind
   kind_kept : (t : p.Items) (u : ℕ → ℕ) (k : Keeps s t u) (by : FlowRule) (q : Seen) (n offset : ℕ) (kind : p.Kind) (rs : p.Redirects) → IsPart t (e.command_entered by y q (p.command n offset kind rs))
       → AreKept s t u k (r.kind_bounds (functions_of (script_entered t)) y n (behind_redirects n rs) kind)
   unfolding bounds e.items_entered
@@ -84,7 +84,7 @@ module _ (s : Tally) (y : Around) where
 
   module _ (m : Command) (known : Views) (place : Count) (old mid : Equations) (at : place.index ≡ command_index part.Before (out-Command m).number)
       (asks : (u : ℕ → ℕ) → AreBounds s.places u place (Raise 0) known → Tallies s.places u old mid) where
-    -- what is in it is left out
+    -- nothing is added for what is in it
     pub command_bounded : (by : FlowRule) → AddsFrom s (λ q. e.command_entered by y q (trees.command_of s.script.now m)) known old mid
     command_bounded by t u q k sight part = asks u (entered_bounds s y by m known place (before_index s m place at) t u q k sight part)
 

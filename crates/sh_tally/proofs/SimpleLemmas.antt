@@ -1,4 +1,5 @@
--- What a simple command asks of counts behind it, and at the entry of the function that it calls.
+-- What a simple command requires of counts after it, and at the entry of the function that it
+-- calls.
 use Rattle.std.proofs.Common.{◌≡◌, ℕ, zero, suc, ◌+◌, ◌-◌, ◌*◌, ◌<◌, ◌≤◌, min, max, drop, fold, map, take, get_or, length, Bool, true, false, not, ◌&&◌, if◌then◌else◌, List, [], ◌∷◌, ◌++◌, append_assoc, Option, Some, None, is_some, unwrap_or, option_map, IfSome, ⊎_elim, refl, sym, ap, ap₂, ◌∙◌, subst, arith, true≢false}
 use Rattle.std.proofs.Math.Nat.{mul-le-mul_left}
 use Rattle.std.proofs.lemmas.Bool.{cases_lt}
@@ -108,7 +109,7 @@ told_all ws =
     let g : 0 + (total ws).parameters ≡ (total ws).parameters = omega arith in
     told 0 0 ws ∙ ap₂ up_to e g
 
--- more than can be told are as many as may be counted
+-- a number too great to count is counted as the greatest one
 more_counted : (o q m n : ℕ) → m ≤ n → min most_fields (o + q * m) ≤ min most_fields (capped o + capped q * n)
 more_counted o q zero n le = let none : q * 0 ≡ 0 = omega arith in omega (arith, none)
 more_counted o q (suc m) n le =
@@ -195,7 +196,7 @@ module _ (s : Tally) (t : p.Items) (u : ℕ → ℕ) (k : Keeps s t u) where
   unfolding Passes
   gain_passes g = tt
 
-  -- where names are gained, no parameters are
+  -- names that are gained add no parameters
   named_makes : (q : Seen) (g : Gains) (h : handle.View) (c : Change) → g.args ≡ 0 → Makes q h c → Makes (gaining g q) h c
   named_makes q g h c none makes = record {
     view = extended (Gain g) makes.view;
@@ -249,7 +250,7 @@ module _ (s : Tally) (t : p.Items) (u : ℕ → ℕ) (k : Keeps s t u) where
       let within = entered_within k.known k.claims slot n rule z all in
       record { first = each_makes slot place q z c known.first at within more sees.first; second = each_makes slot place q z c known.second at within more sees.second }
 
--- What is known behind a simple command
+-- What is known after a simple command
 
 module _ (s : Tally) (y : Around) (n : ℕ) (es : p.Elements) (left : Views) where
   abbrev behind : Seen
@@ -268,7 +269,7 @@ module _ (s : Tally) (y : Around) (n : ℕ) (es : p.Elements) (left : Views) whe
   settled_sight : IsBehind s n es left → Sight s settled left
   settled_sight b = b.settled kept_gains (omega arith)
 
-  -- behind both statuses
+  -- after both statuses
   both_sights : (after : After) → ((q : Seen) → Sight s q left → SightAfter s (views.Both q) after) → (o : views.After) → Sight s (views.if_zero o) left → Sight s (views.if_nonzero o) left → SightAfter s o after
   unfolding views.if_zero views.if_nonzero
   both_sights after both o z m = record { zero = (both (views.if_zero o) z).zero; nonzero = (both (views.if_nonzero o) m).nonzero }

@@ -1,4 +1,5 @@
--- The counts that solve the equations of a script are over those of each certificate that keeps the rules.
+-- The counts that solve the equations of a script are over those of each certificate that keeps the
+-- rules.
 use Rattle.std.proofs.Common.{◌≡◌, ℕ, zero, suc, ◌+◌, ◌<◌, ◌≤◌, get_or, length, map, take, append_assoc, List, [], ◌∷◌, ◌++◌, Option, Some, None, IfSome, refl, sym, ap, ◌∙◌, subst, arith}
 use Rattle.std.specs.List.{All}
 use Rattle.std.proofs.lemmas.List.{append-nil, length-map, map_more}

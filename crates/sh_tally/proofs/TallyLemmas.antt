@@ -1,4 +1,4 @@
--- Equations that hold of numbers at the places of a script go on to hold with one more.
+-- Numbers at the places of a script that solve equations solve one more.
 use Rattle.std.proofs.Common.{◌≡◌, ℕ, ◌+◌, ◌<◌, ◌≤◌, ⊎_elim, max, if◌then◌else◌, nat_eq, [], ◌∷◌, ◌++◌, Some, None, is_some, length, refl, sym, ap, ◌∙◌, subst, arith, true≢false}
 use Rattle.std.specs.List.{All}
 use Rattle.std.proofs.lemmas.List.Elements.{All-push}
@@ -32,7 +32,7 @@ equation_tallied places u old new e t most all count source holds = record {
   sized = subst (λ m. length places.counts.now ≤ length m) (sym most) t.sized;
 }
 
--- where a run comes there is a place
+-- a run comes to what is a place
 pub place_there : (places : Places) (i a : ℕ) → claimed places i ≡ Some a → i < length places.counts.now
 place_there places i a is =
     ⊎_elim

@@ -1,4 +1,4 @@
--- Views of what is known stay views of it behind each step of a walk.
+-- Views of what is known stay views of it after each step of a walk.
 use Rattle.std.proofs.Common.{◌≡◌, ℕ, ◌≤◌, true, false, max, List, [], ◌∷◌, ◌++◌, append_assoc, map, Option, Some, None, is_some, IfSome, refl, sym, ap, ◌∙◌, subst, arith, true≢false}
 use Rattle.sh_tree.specs.standard.program.Syntax.{Text}
 use Rattle.sh_domain.specs.Gains.{Gains, named}
@@ -24,7 +24,7 @@ pub map_middle : {A : Type 0} (f : A → A) (xs ys : List A) (x : A) → map f (
 map_middle f [] ys x = refl
 map_middle f (y ∷ xs) ys x = ap (λ zs. f y ∷ zs) (map_middle f xs ys x)
 
--- Views that are left behind expansions
+-- Views that are left after expansions
 
 none_one : (o : Option View) → RaisedView 0 o o
 unfolding RaisedView
@@ -62,7 +62,7 @@ pub raised_lost : (a : ℕ) (k l : Views) → l.first ≡ None → l.second ≡ 
 raised_lost a k l first second = record { first = lost_one a k.first l.first first; second = lost_one a k.second l.second second }
 
 module _ (functions : List Text) where
-  -- behind a step that leaves at most the greater of the count and the least one
+  -- after a step that leaves at most the greater of the count and the least one
   stepped_sees : (q : Seen) (x : Step) (h k : View) → ((c : Certificate) → Passes c x) → ((m n : ℕ) → m ≤ max n h.least → made_by x m ≤ max n k.least) → k.source ≡ h.source
       → Sees functions q h → Sees functions (stepped x q) k
   stepped_sees q x h k pass more same s =
@@ -213,6 +213,6 @@ module _ (functions : List Text) where
   named_sees : (q : Seen) (h : View) (names : List Text) → Sees functions q h → Sees functions (gaining (named names) q) h
   named_sees q h names s = raised_sees q (named names) h h 0 (omega arith) refl (omega arith) s
 
-  -- where names are gained, no parameters are
+  -- names that are gained add no parameters
   pub see_named : (q : Seen) (k : Views) (names : List Text) → See functions q k → See functions (gaining (named names) q) k
   see_named q k names s = record { first = each_some k.first _ _ (λ h. named_sees q h names) s.first; second = each_some k.second _ _ (λ h. named_sees q h names) s.second }

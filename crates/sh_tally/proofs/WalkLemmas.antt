@@ -57,7 +57,7 @@ unfolding HasCount HasAtMost
 count_below n m NotReached h k = absurd h
 count_below n m (Known v f a) h k = omega (arith, h, k)
 
--- Commands that stand together
+-- Commands next to each other
 
 pub first_part : (t : p.Items) (es fs : List Entered) → IsPart t (es ++ fs) → IsPart t es
 first_part t es fs q = record { front = q.front; back = fs ++ q.back; whole = q.whole ∙ ap (λ gs. q.front ++ gs) (append_assoc es fs q.back) }
@@ -69,7 +69,7 @@ last_part t es fs q = record {
   whole = q.whole ∙ ap (λ gs. q.front ++ gs) (append_assoc es fs q.back) ∙ sym (append_assoc q.front es (fs ++ q.back));
 }
 
--- What a certificate keeps at commands that stand together
+-- What a certificate keeps at commands next to each other
 
 module _ (d : Facts) (c : Certificate) where
   abbrev pub Unbroken : Constraint → Type 0
@@ -148,7 +148,7 @@ module _ (s : Tally) (y : Around) where
         );
   }
 
-  -- what is left of the pipelines behind `&&` and `||`
+  -- what is left of the pipelines after `&&` and `||`
   pub record Linked (t : p.Items) (u : ℕ → ℕ) (old : Equations) (rest : List (Link × Pipe)) (now : Equations) (after : After) : Type 0 where
     pub seen : views.After
     pub sight : SightAfter s seen after
@@ -313,7 +313,7 @@ at_index xs i x below is =
     let next : suc i ≡ i + 1 = omega arith in
     drop-cons xs i x below ∙ ap (λ y. y ∷ drop (suc i) xs) (sym is) ∙ ap (λ k. x ∷ drop k xs) next
 
--- Where a pipeline follows `&&` or `||`
+-- A pipeline after `&&` or `||`
 
 module _ (s : Tally) (y : Around) (before after : After) (old new : Equations) (pipe : p.Pipeline) where
   pub and_added : ((by : FlowRule) → AddsFrom s (λ q. e.pipeline_entered by y q pipe) before.zero old new) → (l : Link) → l ≡ link.AndThen
@@ -383,7 +383,7 @@ module _ (s : Tally) (y : Around) where
       subst (λ ps. IsPart t (e.pipeline_entered by y q (p.pipeline (out-Pipe l).negated (commands_from b ps)))) one (subst (λ z. IsPart t (e.pipeline_entered by y q z)) (rules.pipeline_of-out b l) part) in
       adds by t u q k sight (first_part t (e.command_entered by y q (trees.command_of b c)) [] whole)
 
--- What a command asks where it is entered
+-- What a command requires at its entry
 
 module _ (d : Facts) (c : Certificate) where
   before_kept : (t : p.Items) (by : FlowRule) (y : Around) (q : Seen) (n offset : ℕ) (kind : p.Kind) (rs : p.Redirects) → flat_map (broken d c) (script_bounds t) ≡ []

@@ -1,4 +1,4 @@
--- How many positional parameters there are at most, as far as one view says it.
+-- How many positional parameters there are at most, by one view.
 -- POSIX.1-2024, XCU 2.5.1 (positional parameters), 2.15 (set, shift).
 use Rattle.std.specs.Prelude.{ℕ, ◌≤◌, ◌-◌, max, List, [], ◌∷◌, ◌++◌, Option, Some, None}
 use Rattle.sh_domain.specs.Facts.{Facts, NotReached, Known, facts}
@@ -6,7 +6,7 @@ use Rattle.sh_domain.specs.Operands.{total}
 use Rattle.sh_domain.specs.Order.{seen_facts}
 use Rattle.sh_domain.specs.Views.{Certificate, Slot, Step, Gain, Define, Lose, Count, Shift, Call, At, Seen, counted_by}
 
--- a run comes there, and so many parameters are sure at most
+-- a run comes there, and at most so many parameters are sure
 unfoldable pub HasAtMost : ℕ → Facts → Type 0
 HasAtMost n NotReached = ⊥
 HasAtMost n (Known v f a) = a ≤ n
@@ -29,7 +29,7 @@ unfoldable pub shift_step : Option ℕ → Step
 shift_step (Some n) = Shift n
 shift_step None = Count (total [])
 
--- a run comes behind a step if one comes to it: behind a call, if it may return
+-- a run comes to the end of a step if one comes to it: of a call, if the function may return
 unfoldable pub Passes : Certificate → Step → Type 0
 Passes c (Call f return names) = (n : ℕ) × HasAtMost n (facts (c.claim return))
 Passes c (Gain g) = Unit {0}

@@ -19,24 +19,27 @@ unfoldable pub count_at_first : Option ℕ → ℕ
 count_at_first None = 65535
 count_at_first (Some a) = a
 
--- The equations are solved by numbers that are these at the places.
+-- Numbers that are these at the places solve the equations.
 pub record IsTallied (places : Places) (u : ℕ → ℕ) (es : Equations) : Type 0 where
   pub v : ℕ → ℕ
   pub few : (i : ℕ) → v i ≤ 65535
   pub below : (i : ℕ) → v i ≤ worth es.most.items i
-  -- whatever the numbers are of counts that there are not yet
+  -- whatever numbers those counts get that are added later
   pub holds : (w : ℕ → ℕ) → ((i : ℕ) → i < length es.most.items → w i ≡ v i) → All (Holds w) es.all.items
   pub same : (i : ℕ) → i < length places.counts.now → v i ≡ u i
   pub sized : length places.counts.now ≤ length es.most.items
 
+-- such numbers solve the new equations, if such numbers solve the old ones
 abbrev pub Tallies : Places → (ℕ → ℕ) → Equations → Equations → Type 0
 Tallies places u old new = IsTallied places u old → IsTallied places u new
 
--- where runs come to both, the number at the place is at most what the change makes of what the view sees
+-- if runs come to both places, the number at the first is at most what the change makes of what the
+-- view sees
 abbrev pub Bounds : Places → (ℕ → ℕ) → Count → Change → View → Type 0
 Bounds places u place change w =
     (a b : ℕ) → claimed places place.index ≡ Some a → claimed places w.source.index ≡ Some b → u place.index ≤ made change (max (u w.source.index) w.least)
 
+-- so do both views bound it
 pub record AreBounds (places : Places) (u : ℕ → ℕ) (place : Count) (change : Change) (known : Views) : Type 0 where
   pub first : IfSome known.first (Bounds places u place change)
   pub second : IfSome known.second (Bounds places u place change)

@@ -1,4 +1,4 @@
--- Which views of what is known somewhere are looked at for counts.
+-- Which views of what is known somewhere the tally looks at.
 -- POSIX.1-2024, XCU 2.5.1 (positional parameters).
 use Rattle.std.specs.Prelude.{◌≡◌, ℕ, ◌+◌, ◌*◌, ◌≤◌, max, List, ◌∷◌, ◌++◌, Option, Some, None, option_map, IfSome}
 use Rattle.sh_tree.specs.standard.program.Syntax.{Text}
@@ -31,7 +31,7 @@ command_index p number = number * 7 + part_place p
 abbrev pub function_index : End → ℕ → ℕ
 function_index e function = function * 7 + (4 + end_place e)
 
--- The place of a slot, if the functions have these names.
+-- The index of the count of a slot, if the functions have these names.
 unfoldable pub index_of : List Text → Slot → Option ℕ
 index_of functions (Before n) = Some (command_index part.Before n)
 index_of functions (AfterZero n) = Some (command_index part.Zero n)
@@ -42,7 +42,8 @@ index_of functions (ReturnsZero f) = option_map (function_index end.Zero) (numbe
 index_of functions (ReturnsNonzero f) = option_map (function_index end.Nonzero) (number_of functions f)
 
 module _ (functions : List Text) where
-  -- the view is one of a place, over steps without a call that leave at most the greater of its count and the least one
+  -- the view is of a slot, and its steps have no call and leave at most the greater of the slot's
+  -- count and the least one
   pub record Shows (h : View) (v : views.View) : Type 0 where
     pub slot : Slot
     pub source : v.source ≡ At slot
@@ -50,7 +51,7 @@ module _ (functions : List Text) where
     pub passes : (c : Certificate) → AllPass c v.steps
     pub made : (n : ℕ) → all_made v.steps n ≤ max n h.least
 
-  -- one of what is seen
+  -- it shows one view of what is seen
   pub record Sees (q : Seen) (h : View) : Type 0 where
     pub view : views.View
     pub front : Seen
@@ -58,7 +59,7 @@ module _ (functions : List Text) where
     pub one : q ≡ front ++ (view ∷ back)
     pub shows : Shows h view
 
-  -- all of them are
+  -- both of them do, if they are there
   pub record See (q : Seen) (known : Views) : Type 0 where
     pub first : IfSome known.first (Sees q)
     pub second : IfSome known.second (Sees q)
@@ -68,7 +69,7 @@ module _ (functions : List Text) where
     pub zero : See (if_zero o) known.zero
     pub nonzero : See (if_nonzero o) known.nonzero
 
--- A view is left behind expansions after which there are at least so many parameters, or none is left.
+-- The view stays after expansions that leave at least so many parameters, or none is left.
 unfoldable pub RaisedView : ℕ → Option View → Option View → Type 0
 RaisedView n old None = Unit {0}
 RaisedView n None (Some k) = ⊥

@@ -1,5 +1,5 @@
--- What a walk over a script for its counts does: it adds equations that each certificate solves which keeps the flow rules, and leaves views of
--- what is known behind what it went over.
+-- What a walk over a script for its counts does. It adds equations, and each certificate that keeps
+-- the flow rules solves them. It leaves views of what is known after what it went over.
 -- POSIX.1-2024, XCU 2.5.1 (positional parameters), 2.9 (shell commands).
 use Rattle.std.specs.Prelude.{◌≡◌, ℕ, ◌≤◌, max, map, option_map, List, Some, [], ◌++◌, flat_map}
 use Rattle.sh_tree.specs.declared.tree.ClauseEnd.{ClauseEnd}
@@ -39,7 +39,7 @@ unfoldable pub HasCount : ℕ → Facts → Type 0
 HasCount n NotReached = ⊥
 HasCount n (Known v f a) = n ≡ a
 
--- commands that stand together in a script, as they are entered
+-- commands next to each other in a script, as they are entered
 pub record IsPart (t : p.Items) (es : List Entered) : Type 0 where
   pub front : List Entered
   pub back : List Entered
@@ -58,7 +58,8 @@ module _ (s : Tally) where
   HasTexts (p.command n offset (p.Simple es) rs) = AreTexts n es
   HasTexts _ = Unit {0}
 
-  -- The numbers are the counts of a certificate that keeps all rules of the script, and that a run comes to each place of which a count is claimed
+  -- The numbers are the counts of a certificate that keeps all rules of the script. By it a run
+  -- comes to each place at which a count is claimed
   pub record Keeps (t : p.Items) (u : ℕ → ℕ) : Type 0 where
     -- the table is that of the script
     pub functions : (f : Text) → is_one_of (functions_of (script_entered t)) f ≡ is_one_of names f
@@ -86,7 +87,7 @@ module _ (s : Tally) where
   AddsFrom entered known old new =
       (t : p.Items) (u : ℕ → ℕ) (q : Seen) → Keeps t u → Sight q known → IsPart t (entered q) → Tallies s.places u old new
 
-  -- what is left behind that
+  -- what is left after them
   abbrev pub Leaves : (views.After → views.After) → After → After → Type 0
   Leaves behind known left = (o : views.After) → SightAfter o known → SightAfter (behind o) left
 
@@ -102,7 +103,7 @@ module _ (s : Tally) where
   AddsLeaves n known old new =
       (t : p.Items) (u : ℕ → ℕ) (k : Keeps t u) (rule : FlowRule) (o : views.After) → SightAfter o known → AreKept t u k (leaves n rule o) → Tallies s.places u old new
 
-  -- what is added for a command of a kind, behind whose redirections this is known
+  -- what is added for a command of a kind, if this is known after its redirections
   abbrev pub AddsKind : entries.Around → ℕ → p.Kind → Views → Equations → Equations → Type 0
   AddsKind y n kind known old new =
       (t : p.Items) (u : ℕ → ℕ) (q : Seen) (k : Keeps t u) → Sight q known → IsPart t (kind_entered y n q kind)
@@ -122,19 +123,19 @@ module _ (s : Tally) where
 
   -- Words
 
-  -- what is added for the commands in a piece of a word, and what is known behind it
+  -- what is added for the commands in a piece of a word, and what is known after it
   pub record Passes (entered : Seen → List Entered) (gains : Gains) (known left : Views) (old new : Equations) : Type 0 where
     pub adds : AddsFrom entered known old new
     pub gained : Raised gains.args known left
 
-  -- a run of elements
+  -- elements of a simple command, and equations for those before them
   pub record ElementsAt (t : p.Items) (u : ℕ → ℕ) (entered : Seen → List Entered) (left : Views) (old new : Equations) : Type 0 where
     pub seen : Seen
     pub sight : Sight seen left
     pub part : IsPart t (entered seen)
     pub tallies : Tallies s.places u old new
 
-  -- The words of elements: these before others, and what is known behind them
+  -- The words of elements: these before others, and what is known after them
   pub record PassesWords (es rest : p.Elements) (known left : Views) (old new : Equations) : Type 0 where
     pub adds : (t : p.Items) (u : ℕ → ℕ) (q last : Seen) → Keeps t u → Sight q known → IsPart t (entries.elements_entered q last es)
         → ElementsAt t u (λ r. entries.elements_entered r last rest) left old new
@@ -144,7 +145,7 @@ module _ (s : Tally) where
   abbrev pub settled_gains : p.Elements → ℕ
   settled_gains es = max (values_gains (assignments_in es)).args (redirections_gains es).args
 
-  -- The values and redirections of elements, which are expanded behind the words
+  -- The values and redirections of elements, which are expanded after the words
   pub record PassesValues (es rest : p.Elements) (known left : Views) (old new : Equations) : Type 0 where
     pub adds : (t : p.Items) (u : ℕ → ℕ) (q last : Seen) → Keeps t u → Sight last known → IsPart t (entries.elements_entered q last es)
         → ((r : Seen) × IsPart t (entries.elements_entered r last rest)) × Tallies s.places u old new
@@ -153,7 +154,7 @@ module _ (s : Tally) where
 
   -- Simple commands
 
-  -- what is known behind the words of a simple command, and behind its values and redirections
+  -- what is known after the words of a simple command, and after its values and redirections
   pub record IsBehind (n : ℕ) (es : p.Elements) (left : Views) : Type 0 where
     pub words : Sight (behind_words es (views.at (Before n))) left
     pub settled : (g : Gains) → g.args ≤ settled_gains es → Sight (views.gaining g (behind_words es (views.at (Before n)))) left
@@ -163,13 +164,13 @@ module _ (s : Tally) where
   AddsManner y n es left m old new =
       (t : p.Items) (u : ℕ → ℕ) (k : Keeps t u) → IsBehind n es left → AreKept t u k (simple_bounds y n es m) → Tallies s.places u old new
 
-  -- what is added for a simple command behind its words
+  -- what is added for a simple command after its words
   abbrev pub AddsSimple : entries.Around → ℕ → p.Elements → Views → Equations → Equations → Type 0
   AddsSimple y n es left old new =
       AreTexts n es → (t : p.Items) (u : ℕ → ℕ) (k : Keeps t u) → IsBehind n es left
       → AreKept t u k (simple_bounds y n es (manner (functions_of (script_entered t)) es)) → Tallies s.places u old new
 
-  -- the count of this function
+  -- what is added for the count at an end of this function
   abbrev pub AddsFunction : End → Text → Views → Change → Equations → Equations → Type 0
   AddsFunction end name known change old new =
       (u : ℕ → ℕ) → ((place : Count) → option_map (function_index end) (number_of names name) ≡ Some place.index → AreBounds s.places u place change known)
@@ -182,7 +183,7 @@ module _ (s : Tally) where
     pub count : ℕ
     pub counts : claimed s.places index ≡ Some count
 
-  -- the count behind a call of this function
+  -- what is added for the count after a call of this function
   abbrev pub AddsReturn : Count → End → Text → Views → Equations → Equations → Type 0
   AddsReturn place end name known old new =
       (u : ℕ → ℕ) → (IsReached end name → AreBounds s.places u place (Raise 0) known) → Tallies s.places u old new

@@ -21,7 +21,8 @@ pub struct Tally<'a> {
 }
 
 impl Tally<'_> {
-    // The count at a place is at most what a change makes of what a view sees, if runs come to both.
+    // Adds that the count at a place is at most what a change makes of what a view sees, if runs
+    // come to both.
     fn bound_by(
         &self,
         equations: &mut Equations,
@@ -45,7 +46,7 @@ impl Tally<'_> {
         Ok(())
     }
 
-    /// The count at a place is at most what a change makes of what is known.
+    /// Adds that the count at a place is at most what a change makes of what is known.
     ///
     /// # Errors
     ///
@@ -64,7 +65,7 @@ impl Tally<'_> {
         Ok(())
     }
 
-    /// The counts after the command of a number are at most what is known.
+    /// Adds that the counts after the command of a number are at most what is known by its status.
     ///
     /// # Errors
     ///
@@ -84,7 +85,7 @@ impl Tally<'_> {
         Ok(())
     }
 
-    // The place of a function of this name, if the script has one.
+    // The index of the function of this name, if the script has one.
     fn function(&self, name: &[u8]) -> Option<u16>
         ensures { IfSome result (λ function. number_of (names self.now) name.now ≡ Some function) }
     {
@@ -94,7 +95,7 @@ impl Tally<'_> {
         }
     }
 
-    /// The count at a function is at most what a change makes of what is known.
+    /// Adds that the count at an end of a function is at most what a change makes of what is known.
     ///
     /// # Errors
     ///
@@ -115,8 +116,8 @@ impl Tally<'_> {
         }
     }
 
-    /// The count behind a call is at most what is known before it, if a run comes to where the
-    /// function returns.
+    /// Adds that the count after a call is at most what is known before it, if a run comes to this
+    /// end of the function.
     ///
     /// # Errors
     ///
@@ -140,7 +141,7 @@ impl Tally<'_> {
         }
     }
 
-    /// What is known where a function is entered.
+    /// What is known at the entry of a function.
     pub fn entered(&self, name: &[u8]) -> Views
         ensures { Sight self.now (at (Entry name.now)) result }
     {

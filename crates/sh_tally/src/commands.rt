@@ -1,5 +1,5 @@
-//! Commands are gone over for the counts of positional parameters at their places. Each equation is
-//! what one constraint of the flow rules says of counts (XCU 2.5.1, 2.9.4, 2.9.5).
+//! The tally goes over commands for the counts of positional parameters at their places. Each
+//! equation is what one constraint of the flow rules says of counts (XCU 2.5.1, 2.9.4, 2.9.5).
 ghost use Rattle.std.specs.Prelude.{IfOk};
 ghost use Rattle.sh_tree.specs.Lists.{elements_from};
 ghost use Rattle.sh_tree.specs.standard.Tree.{text_of};
@@ -19,8 +19,8 @@ use sh_tree::{Command, Element, Kind, Span};
 use std::alloc::AllocError;
 
 impl Tally<'_> {
-    /// Goes over a command that is entered where this is known. What is in one with redirections of
-    /// its own is left out.
+    /// Goes over a command at whose entry this is known. If it has redirections of its own, the
+    /// counts in it and after it stay as they are claimed.
     ///
     /// # Errors
     ///
@@ -46,7 +46,7 @@ impl Tally<'_> {
         }
     }
 
-    // What is in a `for` is left out.
+    // The counts in a `for` and after it stay as they are claimed.
     #[cycle(tally)]
     fn kind(
         &self,

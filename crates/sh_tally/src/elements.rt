@@ -1,5 +1,5 @@
-//! The elements of a simple command are gone over for the counts at the commands in their words
-//! (XCU 2.9.1).
+//! The tally goes over the elements of a simple command for the counts at the commands in their
+//! words (XCU 2.9.1).
 ghost use Rattle.std.specs.Prelude.{IfOk};
 ghost use Rattle.sh_tree.specs.Lists.{element_from, elements_from};
 ghost use Rattle.sh_tree.specs.standard.program.Syntax as p;
@@ -12,7 +12,7 @@ use sh_tree::Element;
 use std::alloc::AllocError;
 
 impl Tally<'_> {
-    /// Goes over the words of a simple command, each behind those before it.
+    /// Goes over the words of a simple command, one after the other.
     ///
     /// # Errors
     ///
@@ -49,7 +49,7 @@ impl Tally<'_> {
         }
     }
 
-    /// Goes over the values and the redirections of a simple command, which are expanded behind its
+    /// Goes over the values and the redirections of a simple command, which are expanded after its
     /// words.
     ///
     /// # Errors

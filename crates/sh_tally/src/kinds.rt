@@ -1,4 +1,5 @@
-//! Compound commands are gone over for the counts of positional parameters at their places.
+//! The tally goes over compound commands for the counts of positional parameters at their places
+//! (XCU 2.9.4).
 ghost use Rattle.std.specs.Prelude.{IfOk};
 ghost use Rattle.sh_tree.specs.standard.program.Syntax as p;
 ghost use Rattle.sh_tree.specs.standard.program.Trees as trees;
@@ -19,7 +20,7 @@ use sh_tree::{Branch, Clause, ClauseEnd, Kind, Script};
 use std::alloc::AllocError;
 
 impl Tally<'_> {
-    /// Goes over a group, behind whose redirections this is known.
+    /// Goes over a group, if this is known after its redirections.
     ///
     /// # Errors
     ///
@@ -63,7 +64,7 @@ impl Tally<'_> {
         Ok(())
     }
 
-    /// Goes over a loop, behind whose redirections this is known.
+    /// Goes over a loop, if this is known after its redirections.
     ///
     /// # Errors
     ///
@@ -100,7 +101,7 @@ impl Tally<'_> {
         Ok(())
     }
 
-    // Goes over a branch. Returns what is known where its condition is not zero.
+    // Goes over a branch. Returns what is known if the status of its condition is not zero.
     #[cycle(tally)]
     fn branch(
         &self,
@@ -158,7 +159,7 @@ impl Tally<'_> {
         }
     }
 
-    /// Goes over an `if`, behind whose redirections this is known.
+    /// Goes over an `if`, if this is known after its redirections.
     ///
     /// # Errors
     ///
@@ -185,8 +186,8 @@ impl Tally<'_> {
         self.otherwise(equations, around, number, left, otherwise)
     }
 
-    // Goes over a clause of `case`, behind whose word this is known. The commands in its patterns
-    // are left out, and what falls into the next clause.
+    // Goes over a clause of `case`, if this is known after its word. It adds nothing for the
+    // commands in its patterns, and nothing for what falls into the next clause.
     #[cycle(tally)]
     fn clause(
         &self,
@@ -222,7 +223,7 @@ impl Tally<'_> {
         Ok(())
     }
 
-    /// Goes over a `case`, behind whose redirections this is known.
+    /// Goes over a `case`, if this is known after its redirections.
     ///
     /// # Errors
     ///

@@ -1,4 +1,5 @@
-//! Lists are gone over for the counts of positional parameters at their places (XCU 2.9.2, 2.9.3).
+//! The tally goes over lists for the counts of positional parameters at their places (XCU 2.9.2,
+//! 2.9.3).
 ghost use Rattle.std.specs.Prelude.{IfOk};
 ghost use Rattle.sh_tree.specs.declared.tree.Item.{out-Item};
 ghost use Rattle.sh_tree.specs.Lists.{commands_from, items_from, links_from};
@@ -18,7 +19,7 @@ use sh_tree::{AndOr, Command, Item, Link, Pipe, Script};
 use std::alloc::AllocError;
 
 impl Tally<'_> {
-    /// Goes over a list that is entered where this is known.
+    /// Goes over a list at whose entry this is known. Returns what is known after it.
     ///
     /// # Errors
     ///

@@ -7,7 +7,7 @@ ghost use Rattle.sh_tally.specs.Views.{command_index, end_place, function_index,
 use sh_counts::{Count, Equations};
 use std::alloc::AllocError;
 
-/// A place round a command: before it, after it by its status, and each turn of a loop.
+/// A place at a command: before it, after it by its status, and each turn of a loop.
 #[derive(Clone, Copy, Debug, PartialEq, Eq)]
 pub enum Part {
     Before,
@@ -16,7 +16,7 @@ pub enum Part {
     Head,
 }
 
-/// A place round a function: where it is entered, and where it returns by its status.
+/// A place at a function: its entry, and its return by the status.
 #[derive(Clone, Copy, Debug, PartialEq, Eq)]
 pub enum End {
     Entered,
@@ -24,8 +24,8 @@ pub enum End {
     Nonzero,
 }
 
-/// The counts that are claimed: seven for each number from 0, four of the command and three of the
-/// function. None is there for a place to which no run comes.
+/// The counts that a certificate claims: seven for each number from 0, four of the command and
+/// three of the function. A place to which no run comes has none.
 #[derive(Clone, Copy, Debug)]
 pub struct Places<'a> {
     pub counts: &'a [Option<u16>],
@@ -41,7 +41,7 @@ impl Part {
         }
     }
 
-    // Its place among those of a command.
+    // Its index among the places of a command.
     #[tactic(auto, unfolding(crate::specs::Views::part_place))]
     fn place(self) -> usize
         ensures value { result ≡ part_place self }
@@ -57,7 +57,7 @@ impl Part {
 }
 
 impl End {
-    /// The unknown count at the function of a place.
+    /// The unknown count at this end of the function of an index.
     pub fn of(self, function: u16) -> Count
         ensures { result.index ≡ function_index self function }
     {
@@ -66,7 +66,7 @@ impl End {
         }
     }
 
-    // Its place among those of a function.
+    // Its index among the places of a function.
     #[tactic(auto, unfolding(crate::specs::Views::end_place))]
     fn place(self) -> usize
         ensures value { result ≡ end_place self }
@@ -102,7 +102,7 @@ impl Places<'_> {
         }
     }
 
-    /// An unknown count for each place, of at most what is claimed there.
+    /// Adds an unknown count for each place, of at most what is claimed there.
     ///
     /// # Errors
     ///

@@ -1,4 +1,4 @@
-//! The counts behind a simple command, and at the entry of the function that it calls
+//! The counts after a simple command, and at the entry of the function that it calls
 //! (XCU 2.9.1, 2.15).
 ghost use Rattle.std.specs.Prelude.{◌≡◌, ◌≤◌, ℕ, false, List, None, Some, IfOk, IfSome, map, drop};
 ghost use Rattle.sh_tree.specs.Lists.{elements_from};
@@ -27,7 +27,7 @@ use sh_table::{Kind, WordText, kind_of};
 use sh_tree::{Element, KnownName};
 use std::alloc::AllocError;
 
-// The words of a simple command become parameters, except the first so many behind its name.
+// The words after the name of a simple command become the parameters, except the first so many.
 #[tactic(auto, using(crate::proofs::SimpleLemmas::words_counted))]
 fn words_of(elements: &[Element], skipped: usize, script: &[u8]) -> Change
     ensures { (m n : ℕ) → m ≤ n → counted_by (total (drop skipped (behind_name (elements_from script.now elements.now)))) m ≤ made result n }
@@ -39,7 +39,7 @@ fn words_of(elements: &[Element], skipped: usize, script: &[u8]) -> Change
     }
 }
 
-// So many parameters are gone, or all if their number is not known.
+// So many parameters are gone. If it is not known how many, all may be.
 #[tactic(auto, using(crate::proofs::SimpleLemmas::shift_counted))]
 fn shift_of(texts: &[WordText], script: &[u8]) -> Change
     ensures { (ws : List Word) → map static_of ws ≡ map (text_in script.now) texts.now → (m n : ℕ) → m ≤ n → made_by (shift_step (first_number ws)) m ≤ made result n }
@@ -73,7 +73,8 @@ fn special_of(of: Kind) -> Option<KnownName>
 }
 
 impl Tally<'_> {
-    /// The counts behind the words of a simple command, its values and its redirections.
+    /// Adds bounds of the counts after a simple command, if this is known after its words, its
+    /// values and its redirections.
     ///
     /// # Errors
     ///
@@ -97,7 +98,8 @@ impl Tally<'_> {
         }
     }
 
-    // What a name means: a special built-in utility, a function of the script, or another utility.
+    // By the meaning of a name: a special built-in utility, a function of the script, or another
+    // utility.
     fn named(
         &self,
         equations: &mut Equations,
@@ -126,7 +128,7 @@ impl Tally<'_> {
         }
     }
 
-    // A call leaves the parameters of the caller, if the function returns.
+    // A call leaves the caller its parameters, if the function returns.
     fn call(
         &self,
         equations: &mut Equations,
@@ -151,7 +153,8 @@ impl Tally<'_> {
         Ok(())
     }
 
-    // The counts behind a utility of a kind. What is known behind some is left out.
+    // Adds bounds of the counts after a utility of a kind. After `read` and `getopts` they
+    // stay as they are claimed.
     fn utility(
         &self,
         equations: &mut Equations,
@@ -174,7 +177,8 @@ impl Tally<'_> {
         }
     }
 
-    // The counts behind a special built-in utility. What is known behind some is left out.
+    // Adds bounds of the counts after a special built-in utility. After all except `:`,
+    // `set` and `shift` they stay as they are claimed.
     fn special(
         &self,
         equations: &mut Equations,

@@ -1,4 +1,4 @@
-//! Counts that are claimed are lowered to the greatest that the flow rules allow.
+//! The counts that are claimed are lowered to the greatest that the equations of a script allow.
 ghost use Rattle.std.specs.Prelude.{IfOk};
 ghost use Rattle.sh_tree.specs.standard.program.Trees.{script_of};
 ghost use Rattle.sh_tally.specs.Walks.{AreOver};
@@ -11,7 +11,8 @@ use sh_tree::Script;
 use std::alloc::{AllocError, Global};
 
 impl Tally<'_> {
-    /// The counts at the places of a script, lowered to the greatest that solve its equations.
+    /// The greatest counts at the places of a script that solve its equations, and are at most what
+    /// is claimed. No certificate that keeps the flow rules has a greater count at such a place.
     ///
     /// # Errors
     ///

@@ -1,4 +1,4 @@
-//! Of what is known somewhere, the places that bound the count of positional parameters (XCU 2.5.1).
+//! The places whose counts of positional parameters bound the count somewhere (XCU 2.5.1).
 
 ghost use Rattle.std.specs.Prelude.{◌≡◌, ℕ, max, List, Some, IfSome};
 ghost use Rattle.sh_tree.specs.standard.program.Syntax.{Text};
@@ -11,15 +11,14 @@ use crate::places::{Part, Places};
 use sh_counts::Count;
 use sh_tree::LoopKind;
 
-/// What is known at a place, and behind expansions after which there are at least so many
-/// parameters.
+/// What is known at a place, and then after expansions that leave at least so many parameters.
 #[derive(Clone, Copy, Debug, PartialEq, Eq)]
 pub struct View {
     pub source: Count,
     pub least: u16,
 }
 
-/// Two views of what is known somewhere at most: those with the least counts.
+/// At most two views of what is known somewhere: those that claim the least counts.
 #[derive(Clone, Copy, Debug, PartialEq, Eq)]
 pub struct Views {
     pub first: Option<View>,
@@ -34,7 +33,7 @@ pub struct After {
 }
 
 impl View {
-    // Behind expansions after which there are at least so many parameters.
+    // The view after expansions that leave at least so many parameters.
     fn raised(self, least: u16) -> View
         ensures source { result.source ≡ self.source }
         ensures least { result.least ≡ max self.least least }
@@ -52,7 +51,7 @@ impl View {
     }
 }
 
-// A view behind expansions after which there are at least so many parameters.
+// A view after expansions that leave at least so many parameters.
 #[tactic(auto, unfolding(crate::specs::Views::RaisedView))]
 fn raised(view: Option<View>, least: u16) -> Option<View>
     ensures { RaisedView least view result }
@@ -89,7 +88,7 @@ impl Views {
         }
     }
 
-    /// Behind expansions after which there are at least so many parameters.
+    /// The views after expansions that leave at least so many parameters.
     pub fn raised(self, least: u16) -> Views
         ensures { Raised least self result }
     {
@@ -172,7 +171,7 @@ impl After {
         }
     }
 
-    /// What is known where a loop takes its next turn, and where it ends, behind its condition.
+    /// What is known after the condition of a loop if it takes its next turn, and if it ends.
     #[tactic(auto, unfolding(sh_domain::specs::Entries::turns, sh_domain::specs::Entries::ends))]
     pub fn turned(self, kind: LoopKind) -> After
         ensures turns { (functions : List Text) (o : views.After) → SeeAfter functions o self → See functions (turns kind o) result.zero }

@@ -112,7 +112,7 @@ impl Tally<'_> {
         Ok(left)
     }
 
-    // The commands in arithmetic are left out, and what is known after it.
+    // It adds nothing for the commands in arithmetic, and keeps no view after it.
     #[cycle(tally)]
     fn part(
         &self,
