@@ -15,6 +15,7 @@ mod place;
 mod sight;
 pub mod sights;
 mod spot;
+mod start;
 mod subject;
 mod target;
 mod wakes;

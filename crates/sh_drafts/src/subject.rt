@@ -2,16 +2,13 @@
 ghost use Rattle.std.specs.Prelude.{◌≡◌, true};
 ghost use Rattle.sh_tree.specs.declared.limits.TheConstants.{MAX_NAMES};
 ghost use Rattle.sh_table.specs.Calls.{table_of};
-ghost use Rattle.sh_domain.specs.Admitted.{IsAdmitted};
 ghost use Rattle.sh_domain.specs.Certificates.{in_byte_order};
 ghost use Rattle.sh_domain.specs.Compacts.{compact_claims};
-ghost use Rattle.sh_domain.specs.Knowledge.{among, knowledge_facts};
 ghost use Rattle.sh_domain.specs.Spelling.{is_writable};
-ghost use Rattle.sh_drafts.specs.Starts.{start_of};
 ghost use Rattle.sh_drafts.specs.Writable.{HasWritable, IsWritten, sets_in};
 
 use crate::writable::Writable;
-use sh_domain::{Compact, Knowledge, Names, Policy};
+use sh_domain::{Compact, Names, Policy};
 use sh_table::CallTable;
 use sh_tree::{Command, Script};
 
@@ -36,18 +33,4 @@ pub struct Subject<'a> {
     ghost started: { stated ≡ true → is_writable (compact_claims (in_byte_order names.now) compact.now).start ≡ true },
     ghost written: { IsWritten names.now (sets_in writable.now.vars writable.now.functions) },
     ghost all_writable: { HasWritable names.now MAX_NAMES (sets_in writable.now.vars writable.now.functions) },
-}
-
-impl Subject<'_> {
-    /// What is known where the script starts: what is stated, if anything is, or what the policy
-    /// declares.
-    pub fn start(&self) -> Knowledge
-        requires admitted { IsAdmitted self.now.script.now self.now.policy.now self.now.tree.now self.now.names.now }
-        ensures { knowledge_facts self.now.names.now result ≡ among self.now.names.now (start_of self.now) }
-    {
-        if self.stated {
-            return Knowledge::claimed(&self.compact.rows, &self.compact.start);
-        }
-        Knowledge::start(self.names, self.policy)
-    }
 }
