@@ -8,8 +8,8 @@ ghost use Rattle.sh_rules.specs.Settings.{gained};
 ghost use Rattle.sh_rules.specs.Walks.{facts_in, setting};
 
 use crate::claims::Claims;
-use sh_gains::{Known, gains as words};
 use sh_domain::Knowledge;
+use sh_gains::{Known, gains as words};
 use sh_tree::{Action, Expr, Redirect, Subject, Word};
 
 /// A variable is set from here on.
