@@ -10,15 +10,14 @@ ghost use Rattle.sh_domain.specs.Knowledge.{knowledge_facts};
 ghost use Rattle.sh_domain.specs.Table.{behind_words};
 ghost use Rattle.sh_domain.specs.Views as views;
 ghost use Rattle.sh_domain.specs.Views.{After, Seen, at, gaining, gaining_names};
-ghost use Rattle.sh_demands.specs.Knowing.{action_gains};
+ghost use Rattle.sh_gains.specs.Knowing.{action_gains};
 ghost use Rattle.sh_sweeps.specs.Sweeps.{ArePassed, IsPassed, Knows, KnowsBehind, known_behind};
 ghost use Rattle.sh_drafts.specs.Ready.{IsReady};
 
 use crate::claims::claims_of;
-use sh_demands::Known;
-use sh_demands::own::gain_operands;
 use sh_domain::{Certificate, FlowRule, Knowledge};
 use sh_drafts::Subject;
+use sh_gains::{Known, gain_operands};
 use sh_rules::walk::Course;
 use sh_rules::{
     Behind, enter_operator, gain_action, gain_assigned, gain_redirects, gain_variable, gain_word,
