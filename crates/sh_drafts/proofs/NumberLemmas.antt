@@ -124,14 +124,14 @@ module _ (names : List Text) (h : AreNumbered names) where
       go None e = ap (λ b. p k && b) (le-ltb k (length names) (past names k e)) ∙ and_none (p k)
       go (Some t) e = ap (λ b. p k && b) (lt-ltb k (length names) (slice_get_within names k t e)) ∙ and_true (p k) ∙ sym (ap (at_number p) (h.own k t e))
 
-  known_of : (v u f g : ℕ → Bool) (m n : ℕ) → v ≡ u → f ≡ g → m ≡ n → number.Known v f m ≡ number.Known u g n
-  known_of v u f g m n x y z = cc
+  same_numbers : (v u f g : ℕ → Bool) (m n : ℕ) → v ≡ u → f ≡ g → m ≡ n → number.Known v f m ≡ number.Known u g n
+  same_numbers v u f g m n x y z = cc
 
   pub assured_numbers : (s : Assured) (v f : ℕ → Bool) (a : ℕ) → ((k : ℕ) → v k ≡ (has_bit k s.vars.words && nat_lt k (length names)))
       → ((k : ℕ) → f k ≡ (has_bit k s.functions.words && nat_lt k (length names))) → a ≡ s.args → number.Known v f a ≡ by_number names (assured_facts names s)
   unfolding by_number
   assured_numbers s v f a vars functions args =
-      known_of _ _ _ _ _ _ (fun_ext (λ k. vars k ∙ numbered_test (λ j. has_bit j s.vars.words) k)) (fun_ext (λ k. functions k ∙ numbered_test (λ j. has_bit j s.functions.words) k)) args
+      same_numbers _ _ _ _ _ _ (fun_ext (λ k. vars k ∙ numbered_test (λ j. has_bit j s.vars.words) k)) (fun_ext (λ k. functions k ∙ numbered_test (λ j. has_bit j s.functions.words) k)) args
 
   -- a name that is added
 
