@@ -19,6 +19,8 @@ pub struct Draft {
     pub rest: u64,
     /// How often the flow rules of a command were gone through so far: nothing depends on it.
     pub looks: u64,
+    /// How many of the looks were at bodies that a call had gone over again: a hint.
+    pub again: u64,
     /// How often a function was entered so far that had not been: a hint.
     pub entered: u64,
     /// The commands that wait to be looked at: a hint.
@@ -39,5 +41,12 @@ impl Draft {
     /// Whether it was lowered so often that the counts are to be solved apart: a hint.
     pub fn is_tired(&self) -> bool {
         self.lowered > self.rest
+    }
+
+    /// Whether a call goes over a body of the function at once, though a pass over it has ended: a
+    /// hint. What it is entered with fell, so what it returns with may fall too. Such passes take at
+    /// most half of the looks, so that a body with many callers is not gone over for each of them.
+    pub fn goes_again(&self, definition: u32) -> bool {
+        self.again <= self.looks / 2 && self.waiting.units.waits_again(definition)
     }
 }

@@ -50,6 +50,7 @@ fn filled(alloc: Global, subject: &Subject<'_>) -> Result<Certificate, AllocErro
         lowered: 0,
         rest: 0,
         looks: 0,
+        again: 0,
         entered: 0,
         waiting: Waiting::all(alloc, subject.table)?,
     };

@@ -118,6 +118,7 @@ fn settled(alloc: Global, subject: &Subject<'_>, way: Way) -> Result<(Certificat
         lowered: 0,
         rest: rest_after(0, subject.commands.len()),
         looks: 0,
+        again: 0,
         entered: 0,
         waiting: Waiting::all(alloc, subject.table)?,
     };

@@ -31,7 +31,7 @@ use sh_worklist::Unit;
 use std::alloc::AllocError;
 
 /// Lowers the certificate in the bodies of the function that a command calls, except those over
-/// which a pass has begun.
+/// which a pass has begun and the call does not go again.
 ///
 /// # Errors
 ///
@@ -55,7 +55,18 @@ pub fn sweep_called(
     Ok(())
 }
 
-// As `sweep_function`, unless a pass over the body has begun.
+/// Whether a command calls a function with one body over which the sweep goes again at once: a hint.
+pub fn is_called_again(subject: &Subject<'_>, draft: &Draft, command: &Command) -> bool {
+    let Some(function) = subject.table.callee(command.number) else {
+        return false;
+    };
+    match subject.table.definitions(function) {
+        [number] => draft.goes_again(*number),
+        _ => false,
+    }
+}
+
+// As `sweep_function`, if no pass over the body has begun, or if the call goes over it again.
 #[cycle(sweep)]
 fn sweep_unseen(
     subject: &Subject<'_>,
@@ -66,10 +77,17 @@ fn sweep_unseen(
     requires ready { IsReady subject.now draft.old.certificate draft.old.probe.count }
     ensures swept { IfOk result (λ unit. IsSwept subject.now draft.old.certificate draft.new.certificate draft.new.probe.count) }
 {
-    if !draft.waiting.units.is_unseen(number) {
+    if draft.waiting.units.is_unseen(number) {
+        return sweep_function(subject, draft, levels, number);
+    }
+    if !draft.goes_again(number) {
         return Ok(());
     }
-    sweep_function(subject, draft, levels, number)
+    let looks = draft.looks;
+    sweep_function(subject, draft, levels, number)?;
+    let spent = draft.looks.saturating_sub(looks);
+    draft.again = draft.again.saturating_add(spent);
+    Ok(())
 }
 
 // Lowers the certificate in the body of the definition of a number, and where its function returns.

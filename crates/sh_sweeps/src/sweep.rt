@@ -19,7 +19,7 @@ ghost use Rattle.sh_sweeps.specs.Sweeps.{AreItems, AreLinks, AreParts, ArePassed
 ghost use Rattle.sh_drafts.specs.Ready.{IsReady, IsSwept};
 
 use crate::before::lower_before;
-use crate::bodies::sweep_called;
+use crate::bodies::{is_called_again, sweep_called};
 use crate::choices::{sweep_case, sweep_cond};
 use crate::known::{behind_pipe, entry_of, head_of, inside_of, pass_all, pass_link, pass_on, process_of, started_in, turn_of};
 use crate::own::{lower_behind, lower_command};
@@ -410,8 +410,8 @@ fn sweep_looked(
 }
 
 // Lowers the certificate at the commands in the words of a simple command, and after it if
-// something is new. If that enters a function for the first time, it goes on in its bodies, and
-// then after the command again.
+// something is new. If that enters a function for the first time, or has its body go again, it goes
+// on in its bodies, and then after the command again.
 #[cycle(sweep)]
 fn sweep_simple(
     subject: &Subject<'_>,
@@ -433,7 +433,8 @@ fn sweep_simple(
     }
     let entered = draft.entered;
     lower_behind(subject, draft, by, around, known, command)?;
-    if draft.entered == entered || levels < LEVELS - CALLS {
+    let is_news = draft.entered != entered || is_called_again(subject, draft, command);
+    if !is_news || levels < LEVELS - CALLS {
         return Ok(());
     }
     sweep_called(subject, draft, levels, command)?;

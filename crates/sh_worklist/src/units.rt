@@ -1,5 +1,5 @@
 //! The order in which the bodies of functions are gone over.
-ghost use Rattle.std.specs.Prelude.{◌≡◌, ◌<◌, ◌==◌, ◌^◌, ◌&&◌, ◌||◌, ℕ, true, false, not, nat_lt, length, Some, None, IfOk};
+ghost use Rattle.std.specs.Prelude.{◌≡◌, ◌<◌, ◌==◌, ◌^◌, ◌&&◌, ◌||◌, ℕ, true, false, not, nat_lt, length, Some, None, IfOk, IsTrue};
 ghost use Rattle.std.specs.Slice.Scan.{HoldsNowhere};
 ghost use Rattle.sh_rows.specs.Numbers.{has_number};
 ghost use Rattle.sh_worklist.specs.Flags.{is_in, limit_of};
@@ -148,6 +148,13 @@ impl Units {
         ensures { result ≡ units.is_unseen self.now definition }
     {
         self.unseen.has(definition)
+    }
+
+    /// Whether a body waits over which a pass has ended.
+    pub fn waits_again(&self, definition: u32) -> bool
+        ensures { IsTrue result → does_wait self.now definition ≡ true }
+    {
+        matches!(self.rank(definition), Rank::At(_)) && self.waiting.has(definition)
     }
 
     /// A pass over a body begins. The body waits no longer.
