@@ -47,7 +47,7 @@ module _ (s : Subject) where
 
   -- What is known
 
-  -- each of those sees no more there
+  -- no sheet that keeps what is required sees more there
   abbrev pub Knows : Seen → Facts → Type 0
   Knows q k = (other : Sheet) → Keeps s other → IsWithin (sees s.names.now (start_of s) (claims_in s.script.now s.tree.now other) q) k
 
