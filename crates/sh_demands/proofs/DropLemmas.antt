@@ -32,7 +32,8 @@ use Rattle.sh_operands.proofs.MeaningLemmas.{unset_reads}
 use Rattle.sh_domain.specs.Facts.{Facts, claims, Variable}
 use Rattle.sh_domain.specs.Operands.{removed}
 use Rattle.sh_domain.specs.Table.{prefixes}
-use Rattle.sh_demands.specs.Drops.{once_told, all_told, listed, unset_drops, unseen}
+use Rattle.sh_demands.specs.Drops.{once_told, all_told, unset_drops, unseen}
+use Rattle.sh_gains.specs.Statics.{listed}
 use Rattle.sh_demands.specs.DropWalks.{told_if, variable_told, function_told, variable_step, function_step, removed_told, unseen_told, prefix_step, elements_step, reached_step}
 use Rattle.sh_demands.specs.Places.{Source, reached_sharing}
 

@@ -4,7 +4,6 @@ use Rattle.std.proofs.lemmas.List.{append-nil}
 use Rattle.sh_tree.specs.declared.place.Place.{Place}
 use Rattle.sh_tree.specs.declared.place.Code.TheVariants.{U2}
 use Rattle.sh_tree.specs.declared.tree.Action.{Action}
-use Rattle.sh_tree.specs.declared.tree.Action.TheVariants as action
 use Rattle.sh_tree.specs.declared.tree.Binary.{Binary}
 use Rattle.sh_tree.specs.declared.tree.CommandStyle.{CommandStyle}
 use Rattle.sh_tree.specs.declared.tree.Expr.{Expr}
@@ -29,30 +28,9 @@ use Rattle.sh_tree.specs.standard.program.Trees as trees
 use Rattle.sh_tree.proofs.ProgramRules as rules
 use Rattle.sh_domain.specs.Facts.{Facts}
 use Rattle.sh_domain.specs.Needs.{name_needed}
-use Rattle.sh_demands.specs.Knowing.{Knowing}
-use Rattle.sh_demands.specs.Judged.{Judged, judged, inner_gains, part_judged, word_judged, operator_judged, expanded_judged, operands_judged}
-use Rattle.sh_demands.specs.Walks.{name_noted, subject_noted, tilde_needed, tilde_noted, reads_noted, expression_assigned, subject_gained, action_gained, inner_gained, part_step, operator_step, use_step, expression_step, operand_step}
-use Rattle.sh_demands.proofs.KnowingLemmas.{gained_none}
-
--- after operators
-
-pub inner_gained-Default : (b : List ℕ) (k : Knowing) (s : Subject) → inner_gained b k s action.Default ≡ k
-unfolding inner_gained inner_gains
-inner_gained-Default b k s = gained_none k
-
-pub inner_gained-Assign : (b : List ℕ) (k : Knowing) (s : Subject) → inner_gained b k s action.Assign ≡ k
-unfolding inner_gained inner_gains
-inner_gained-Assign b k s = gained_none k
-
-pub inner_gained-Fault : (b : List ℕ) (k : Knowing) (s : Subject) → inner_gained b k s action.Fault ≡ k
-unfolding inner_gained inner_gains
-inner_gained-Fault b k s = gained_none k
-
-pub inner_gained-Alternative : (b : List ℕ) (k : Knowing) (s : Subject) → inner_gained b k s action.Alternative ≡ subject_gained b k s
-unfolding inner_gained inner_gains subject_gained
-inner_gained-Alternative b k s = refl
-
-pub ruleset actions = (inner_gained-Default, inner_gained-Assign, inner_gained-Fault, inner_gained-Alternative)
+use Rattle.sh_demands.specs.Judged.{Judged, judged, part_judged, word_judged, operator_judged, expanded_judged, operands_judged}
+use Rattle.sh_demands.specs.Walks.{name_noted, subject_noted, tilde_needed, tilde_noted, reads_noted, part_step, operator_step, use_step, expression_step, operand_step}
+use Rattle.sh_gains.specs.Walks.{expression_assigned, action_gained, inner_gained}
 
 -- tildes
 

@@ -1,5 +1,3 @@
-pub mod KnowingLemmas
-pub mod GainLemmas
 pub mod DigitLemmas
 pub mod NeedLemmas
 pub mod JudgeLemmas
@@ -10,9 +8,6 @@ pub mod EnteredLemmas
 pub mod OwnTellLemmas
 pub mod MoveLemmas
 pub mod OnceLemmas
-pub mod LocatedLemmas
-pub mod DefinedLemmas
-pub mod TextLemmas
 pub mod LossLemmas
 pub mod DropLemmas
 pub mod WholeLemmas

@@ -1,6 +1,6 @@
 -- What a simple command may drop, by the static texts of its words, is what the demands say.
 use Rattle.std.proofs.Common.{◌≡◌, ℕ, Bool, true, false, not, ◌&&◌, if◌then◌else◌, List, [], ◌∷◌, ◌++◌, append-nil, codes, filter, flat_map, map, Option, Some, None, is_some, refl, sym, ap, ap₂, ◌∙◌}
-use Rattle.std.specs.List.{cons_option, position_from}
+use Rattle.std.specs.List.{position_from}
 use Rattle.std.specs.Str.{bytes_eq}
 use Rattle.std.proofs.lemmas.List.Elements.{filter_agree}
 use Rattle.sh_tree.specs.declared.known.KnownName.TheVariants as known
@@ -17,27 +17,17 @@ use Rattle.sh_table.specs.standard.runs.Environment.{is_one_of}
 use Rattle.sh_table.proofs.FunctionLemmas.{is_placed}
 use Rattle.sh_domain.specs.Facts.{Facts, NotReached, Known, facts, claims, Variable}
 use Rattle.sh_domain.specs.Gains.{Gains, words_gains, with_gains}
-use Rattle.sh_domain.specs.Operands.{Names, no_names, statics, unset_names}
+use Rattle.sh_domain.specs.Operands.{Names, no_names, unset_names}
 use Rattle.sh_domain.specs.Rules.{utility_losses, builtin_losses, losses_by}
 use Rattle.sh_domain.specs.Table.{Manner, Nameless, Utility, operands, prefixes, is_special, manner_of_name, manner_of_words, behind_words}
 use Rattle.sh_domain.specs.Table as table
 use Rattle.sh_domain.specs.Views.{Certificate, Before, Loss, OfNames, OfFunction, OfUnseen, Seen, at, lost, where_reached, steps, step, source_facts}
-use Rattle.sh_demands.specs.Drops.{listed, optarg, unset_drops, utility_drops, builtin_drops, unseen, call_drops}
+use Rattle.sh_demands.specs.Drops.{optarg, unset_drops, utility_drops, builtin_drops, unseen, call_drops}
 use Rattle.sh_demands.specs.Places.{Source, known_behind, function_drops, called_drops, texts_drops}
+use Rattle.sh_gains.proofs.KindLemmas.{texts_listed, special_same}
 
 abbrev pub names_lost : Facts → Certificate → ℕ → List Loss → List Text
 names_lost start c n ls = flat_map (λ l. l.vars ++ l.functions) (map (lost start c n) ls)
-
--- operands that are static
-pub texts_listed : (ws : List Word) → listed (map static_of ws) ≡ statics ws
-texts_listed [] = refl
-texts_listed (w ∷ ws) = ap (cons_option (static_of w)) (texts_listed ws)
-
--- special built-in utilities
-pub special_same : (k : Kind) → is_special k ≡ kinds.is_special k
-unfolding is_special kinds.is_special
-special_same (kind.Special name) = refl
-special_same k = refl
 
 never : (b : Bool) → (b && false) ≡ false
 never true = refl

@@ -1,5 +1,5 @@
 -- What is judged of a command's own words, by the pieces one level below.
-use Rattle.std.proofs.Common.{◌≡◌, ℕ, Option, Some, None, List, [], ◌∷◌, fold, refl, sym, ap, ◌∙◌}
+use Rattle.std.proofs.Common.{◌≡◌, ℕ, Option, Some, None, List, [], ◌∷◌, fold, refl, ap, ◌∙◌}
 use Rattle.sh_tree.specs.declared.place.Place.{Place}
 use Rattle.sh_tree.specs.declared.tree.Branch.{Branch}
 use Rattle.sh_tree.specs.declared.tree.Clause.{Clause, out-Clause}
@@ -19,48 +19,13 @@ use Rattle.sh_tree.specs.declared.tree.Word.{Word}
 use Rattle.sh_tree.specs.Lists.{parts_from, words_from, element_from, elements_from, redirects_from, for_words_from, clauses_from}
 use Rattle.sh_tree.specs.standard.program.Syntax as p
 use Rattle.sh_tree.specs.standard.program.Trees as trees
-use Rattle.sh_tree.specs.standard.program.Words.{operands_in}
 use Rattle.sh_tree.proofs.ProgramRules as rules
-use Rattle.sh_domain.specs.Gains.{no_gains, word_gains, words_gains}
 use Rattle.sh_demands.specs.Judged.{Judged, judged, word_judged}
-use Rattle.sh_demands.specs.Knowing.{Knowing, gained}
+use Rattle.sh_gains.specs.Knowing.{Knowing}
 use Rattle.sh_demands.specs.Own.{words_judged, patterns_judged, redirect_judged, redirects_judged, elements_judged, clauses_judged, for_words_judged, kind_judged, own_places}
-use Rattle.sh_demands.specs.OwnWalks.{word_step, pattern_step, target_step, redirect_step, element_gained, element_step, clause_step, listed_step, simple_step, kind_step}
-use Rattle.sh_demands.proofs.KnowingLemmas.{gained_none, gained_both}
-
--- what the operands leave known
-
-lone : (k : Knowing) (w : p.Word) → gained (words_gains (p.more_words w p.no_words)) k ≡ gained (word_gains w) k
-unfolding words_gains
-lone k w = gained_both (word_gains w) no_gains k ∙ gained_none (gained (word_gains w) k)
-
-pub element_gained-Assignment : (b : List ℕ) (k : Knowing) (s : Span) (w : Word) → element_gained b k (element.Assignment s w) ≡ k
-unfolding element_gained operands_in words_gains
-element_gained-Assignment b k s w = ap (λ es. gained (words_gains (operands_in es)) k) (rules.element_from-Assignment b s w p.no_elements) ∙ gained_none k
-
-pub element_gained-Word : (b : List ℕ) (k : Knowing) (w : Word) → element_gained b k (element.Word w) ≡ gained (word_gains (parts_from b w.parts)) k
-unfolding element_gained operands_in
-element_gained-Word b k w = ap (λ es. gained (words_gains (operands_in es)) k) (rules.element_from-Word b w p.no_elements) ∙ lone k (parts_from b w.parts)
-
-pub element_gained-Redirection : (b : List ℕ) (k : Knowing) (r : Redirect) → element_gained b k (element.Redirection r) ≡ k
-unfolding element_gained operands_in words_gains
-element_gained-Redirection b k r = ap (λ es. gained (words_gains (operands_in es)) k) (rules.element_from-Redirection b r p.no_elements) ∙ gained_none k
-
-pub ruleset gains = (element_gained-Assignment, element_gained-Word, element_gained-Redirection)
-
-gained_behind : (b : List ℕ) (k : Knowing) (e : Element) (rest : p.Elements)
-    → gained (words_gains (operands_in (element_from b e rest))) k ≡ gained (words_gains (operands_in rest)) (element_gained b k e)
-unfolding element_gained operands_in element_from words_gains
-gained_behind b k (Assignment' name s shape row) rest = ap (gained (words_gains (operands_in rest))) (sym (gained_none k))
-gained_behind b k (Word' s shape row) rest =
-    gained_both (word_gains (trees.word_of b row)) (words_gains (operands_in rest)) k
-    ∙ ap (gained (words_gains (operands_in rest))) (sym (lone k (trees.word_of b row)))
-gained_behind b k (Redirection' at number target) rest = ap (gained (words_gains (operands_in rest))) (sym (gained_none k))
-
-pub operands_gained : (b : List ℕ) (k : Knowing) (es : List Element) → gained (words_gains (operands_in (elements_from b es))) k ≡ fold (element_gained b) k es
-unfolding operands_in elements_from words_gains
-operands_gained b k [] = gained_none k
-operands_gained b k (e ∷ es) = gained_behind b k e (elements_from b es) ∙ operands_gained b (element_gained b k e) es
+use Rattle.sh_demands.specs.OwnWalks.{word_step, pattern_step, target_step, redirect_step, element_step, clause_step, listed_step, simple_step, kind_step}
+use Rattle.sh_gains.specs.Walks.{element_gained}
+use Rattle.sh_gains.proofs.GainLemmas.{operands_gained}
 
 -- lists
 

@@ -13,7 +13,7 @@ use Rattle.sh_domain.specs.Facts.{Facts}
 use Rattle.sh_domain.specs.Gains.{word_gains, words_gains, redirect_gains, redirects_gains, with_gains}
 use Rattle.sh_domain.specs.Needs.{word_unmet, words_unmet, patterns_unmet, redirect_unmet, redirects_unmet}
 use Rattle.sh_demands.specs.Judged.{Judged, judged, word_judged}
-use Rattle.sh_demands.specs.Knowing.{Knowing, gained}
+use Rattle.sh_gains.specs.Knowing.{Knowing, gained}
 use Rattle.sh_demands.specs.Own.{words_judged, patterns_judged, redirect_judged, redirects_judged, elements_judged, clauses_judged, for_words_judged, kind_judged, own_places}
 use Rattle.sh_demands.specs.Within.{word_within, words_within, redirect_within, redirects_within, elements_within, clauses_within, for_words_within, kind_within}
 use Rattle.sh_demands.specs.Tellings.{OwnTells, known_as}

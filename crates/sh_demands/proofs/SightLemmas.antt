@@ -1,8 +1,7 @@
 -- The names that a command may set are among those that are seen in it.
-use Rattle.std.proofs.Common.{◌≡◌, ℕ, Bool, true, List, [], ◌∷◌, ◌++◌, flat_map, refl, sym, ap, ◌∙◌}
+use Rattle.std.proofs.Common.{◌≡◌, ℕ, Bool, true, List, [], ◌∷◌, ◌++◌, flat_map, refl, ap, ◌∙◌}
 use Rattle.std.specs.List.{list_all}
 use Rattle.std.proofs.lemmas.Bool.{and_parts, and_from}
-use Rattle.std.proofs.lemmas.List.Folds.{list_all-append}
 use Rattle.sh_tree.specs.declared.tree.Clause.{Clause, out-Clause}
 use Rattle.sh_tree.specs.declared.tree.Command.{Command, out-Command}
 use Rattle.sh_tree.specs.declared.tree.Element.{Assignment', Word', Redirection'}
@@ -27,19 +26,9 @@ use Rattle.sh_domain.specs.Gains.{job, sure}
 use Rattle.sh_domain.specs.Sights.{Sight, sight, subject_sights, in_row, in_part, in_operator, in_box, in_chain, in_expression, in_word, in_target, in_redirect, in_element, in_clause, in_list, in_kind, in_command, operand_sights}
 use Rattle.sh_tree.specs.standard.Words.{words_of}
 use Rattle.sh_demands.specs.Within.{part_within, word_within, operator_within, expression_within, operands_within, words_within, redirect_within, redirects_within, elements_within, clauses_within, for_words_within, kind_within, command_within}
+use Rattle.sh_gains.proofs.SightLemmas.{Seen, front, rest_of}
 
--- where each name that is seen passes a test
-module _ (q : Text → Bool) where
-  abbrev pub Seen : List Sight → Type 0
-  Seen ss = list_all (λ (s : Sight). q s.name) ss ≡ true
-
-  pub front : (ss ts : List Sight) → Seen (ss ++ ts) → Seen ss
-  front ss ts h = (and_parts _ _ (sym (list_all-append (λ (s : Sight). q s.name) ss ts) ∙ h)).0
-
-  pub rest_of : (ss ts : List Sight) → Seen (ss ++ ts) → Seen ts
-  rest_of ss ts h = (and_parts _ _ (sym (list_all-append (λ (s : Sight). q s.name) ss ts) ∙ h)).1
-
--- and `!` does
+-- where `!` passes a test
 module _ (b : List ℕ) (q : Text → Bool) (is_job : q job ≡ true) where
   special_seen : (c : Special) → list_all q (sure (p.Special c)).names ≡ true
   unfolding sure

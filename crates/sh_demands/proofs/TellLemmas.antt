@@ -13,11 +13,11 @@ use Rattle.sh_table.specs.standard.runs.Environment.{is_one_of}
 use Rattle.sh_domain.specs.Facts.{Facts}
 use Rattle.sh_domain.specs.Gains.{Gains, no_gains, and_gains, named, sure, surely, assigned_in, operands_assigned, part_gains, word_gains, operator_gains, expanded_gains, operands_gains, with_gains}
 use Rattle.sh_domain.specs.Needs.{needed, reads_unmet, part_unmet, word_unmet, operator_unmet, expanded_unmet, operands_expanded}
-use Rattle.sh_demands.specs.Knowing.{Knowing, gained, action_gains}
-use Rattle.sh_demands.specs.Judged.{judged, inner_gains, part_judged, word_judged, operator_judged, expanded_judged, operands_judged}
+use Rattle.sh_gains.specs.Knowing.{Knowing, gained, action_gains, inner_gains}
+use Rattle.sh_demands.specs.Judged.{judged, part_judged, word_judged, operator_judged, expanded_judged, operands_judged}
 use Rattle.sh_demands.specs.Within.{part_within, word_within, operator_within, expression_within, operands_within}
 use Rattle.sh_demands.specs.Tellings.{WordsTell, known_as}
-use Rattle.sh_demands.proofs.KnowingLemmas.{gained_none, gained_both}
+use Rattle.sh_gains.proofs.KnowingLemmas.{gained_none, gained_both}
 
 -- Names that pass
 

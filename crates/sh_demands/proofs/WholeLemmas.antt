@@ -11,7 +11,7 @@ use Rattle.sh_tree.specs.standard.program.Syntax.{Text}
 use Rattle.sh_tree.specs.standard.program.Trees.{script_of}
 use Rattle.sh_tree.specs.standard.program.Words.{static_of, operands_in}
 use Rattle.sh_table.specs.Calls as calls
-use Rattle.sh_table.specs.Calls.{Table, row_of, table_of, texts_with}
+use Rattle.sh_table.specs.Calls.{Table, table_of, texts_with}
 use Rattle.sh_table.specs.Numbering.{is_numbered}
 use Rattle.sh_table.specs.standard.runs.Environment.{is_one_of}
 use Rattle.sh_table.proofs.FunctionLemmas.{place_later}
@@ -39,9 +39,10 @@ use Rattle.sh_demands.specs.Places.{Source, source_of, known_before, known_behin
 use Rattle.sh_demands.specs.Tellings.{entered_told}
 use Rattle.sh_demands.specs.Told.{items_told}
 use Rattle.sh_demands.specs.ToldWalks.{script_step}
-use Rattle.sh_demands.specs.Whole.{AreNamesOf, DemandsAreTold, kept_claims}
+use Rattle.sh_demands.specs.Whole.{AreNamesOf, DemandsAreTold}
+use Rattle.sh_gains.specs.Claims.{kept_claims}
 use Rattle.sh_demands.specs.Within.{command_within, redirects_within, kind_within}
-use Rattle.sh_demands.proofs.DefinedLemmas.{functions_same}
+use Rattle.sh_gains.proofs.DefinedLemmas.{functions_same}
 use Rattle.sh_demands.proofs.EnteredLemmas.{script_goes}
 use Rattle.sh_demands.proofs.LossLemmas.{names_lost, losses_told, losses_nowhere}
 use Rattle.sh_demands.proofs.MoveLemmas.{moves_tell}
@@ -49,7 +50,7 @@ use Rattle.sh_demands.proofs.OnceLemmas.{all_once}
 use Rattle.sh_demands.proofs.OwnTellLemmas.{own_told, elements_pass}
 use Rattle.sh_demands.proofs.ReachLemmas.{names_reach}
 use Rattle.sh_demands.proofs.TellLemmas.{facts_whole}
-use Rattle.sh_demands.proofs.TextLemmas.{has_texts, own_texts, entered_have}
+use Rattle.sh_gains.proofs.TextLemmas.{has_texts, own_texts, table_texts}
 
 -- what is claimed before a command, by its number
 pub claim_before : (names : List Text) (c : kept.Certificate) (x : Table) (n : ℕ)
@@ -190,11 +191,6 @@ each_told start b t names c functions same (e ∷ es) w h ps =
 table_functions : (b : List ℕ) (t : Script) (u : Text) → is_one_of (table_of b t).functions.names u ≡ is_one_of (functions_of (script_entered (script_of b t))) u
 unfolding table_of calls.functions_of
 table_functions b t u = functions_same (script_of b t) u
-
-pub table_texts : (b : List ℕ) (t : Script) → is_numbered (script_of b t) ≡ true
-    → list_all (λ (e : Entered). has_texts (table_of b t).rows e.command) (script_entered (script_of b t)) ≡ true
-unfolding table_of
-table_texts b t h = entered_have (script_of b t) h
 
 pub demands_are_told : DemandsAreTold
 unfolding demands

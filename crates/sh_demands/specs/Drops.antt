@@ -2,7 +2,7 @@
 -- for each name.
 -- POSIX.1-2024, XCU 2.9.1 (simple commands), 2.9.5 (functions), 2.15 (unset), 3 (getopts).
 use Rattle.std.specs.Prelude.{ℕ, not, if◌then◌else◌, List, [], ◌∷◌, ◌++◌, codes, drop, filter, fold}
-use Rattle.std.specs.List.{filter_map, list_any}
+use Rattle.std.specs.List.{list_any}
 use Rattle.std.specs.Str.{bytes_eq}
 use Rattle.sh_tree.specs.declared.known.KnownName.TheVariants as known
 use Rattle.sh_tree.specs.declared.place.Place.{Place}
@@ -18,6 +18,7 @@ use Rattle.sh_domain.specs.Demands.{drop_at}
 use Rattle.sh_domain.specs.Facts.{Facts, claims, Variable}
 use Rattle.sh_domain.specs.Operands.{Names, removed}
 use Rattle.sh_domain.specs.Table.{prefixes}
+use Rattle.sh_gains.specs.Statics.{listed}
 
 -- the places with that of a name more, unless one of those from the k-th on is about it
 unfoldable pub once_told : (k at : ℕ) → List Place → Text → List Place
@@ -26,10 +27,6 @@ once_told k at ps t = if list_any (λ x. bytes_eq x.subject t) (drop k ps) then 
 -- each of these names
 abbrev pub all_told : (k at : ℕ) → List Place → List Text → List Place
 all_told k at ps ts = fold (once_told k at) ps ts
-
--- the texts of the words that are static
-abbrev pub listed : List Static → List Text
-listed ts = filter_map (λ t. t) ts
 
 abbrev pub optarg : List Text
 optarg = codes "OPTARG" ∷ []

@@ -6,12 +6,10 @@
 use Rattle.std.specs.Prelude.{ℕ, List, [], ◌++◌, codes}
 use Rattle.sh_tree.specs.declared.place.Place.{Place}
 use Rattle.sh_tree.specs.declared.place.Code.TheVariants.{U2}
-use Rattle.sh_tree.specs.declared.tree.Action.{Action}
-use Rattle.sh_tree.specs.declared.tree.Action.TheVariants as action
 use Rattle.sh_tree.specs.standard.program.Syntax as p
-use Rattle.sh_domain.specs.Gains.{Gains, no_gains, named, sure, assigned_in}
+use Rattle.sh_domain.specs.Gains.{Gains, named, assigned_in}
 use Rattle.sh_domain.specs.Needs.{needed, name_needed, reads_unmet}
-use Rattle.sh_demands.specs.Knowing.{Knowing, gained, action_gains}
+use Rattle.sh_gains.specs.Knowing.{Knowing, gained, action_gains, inner_gains}
 
 pub record Judged : Type 0 where
   pub known : Knowing
@@ -29,11 +27,6 @@ behind g s = judged (gained g s.known) s.places
 -- what was known before, with the places of what is done aside
 abbrev pub aside : Judged → Judged → Judged
 aside s t = judged s.known t.places
-
--- where the word of `+` is expanded its parameter is set
-unfoldable pub inner_gains : p.Parameter → Action → Gains
-inner_gains parameter action.Alternative = sure parameter
-inner_gains parameter _ = no_gains
 
 abbrev pub reads_judged : p.Expression → Judged → Judged
 reads_judged e s = noted (reads_unmet s.known.facts e) s

@@ -1,4 +1,3 @@
-pub mod Knowing
 pub mod Walks
 pub mod Judged
 pub mod Within

@@ -6,7 +6,7 @@ use Rattle.sh_tree.specs.declared.place.Place.{Place}
 use Rattle.sh_tree.specs.standard.program.Syntax as p
 use Rattle.sh_tree.specs.standard.program.Words.{operands_in}
 use Rattle.sh_domain.specs.Gains.{words_gains}
-use Rattle.sh_demands.specs.Knowing.{Knowing, gained}
+use Rattle.sh_gains.specs.Knowing.{Knowing, gained}
 use Rattle.sh_demands.specs.Judged.{Judged, judged, aside, word_judged}
 
 -- by what is known at another place

@@ -10,11 +10,10 @@ use Rattle.sh_tree.specs.declared.tree.Word.{Word}
 use Rattle.sh_tree.specs.Lists.{parts_from, element_from}
 use Rattle.sh_tree.specs.standard.program.Syntax as p
 use Rattle.sh_tree.specs.standard.program.Trees.{target_of, kind_of}
-use Rattle.sh_tree.specs.standard.program.Words.{operands_in}
-use Rattle.sh_domain.specs.Gains.{words_gains}
 use Rattle.sh_demands.specs.Judged.{Judged, aside, word_judged}
-use Rattle.sh_demands.specs.Knowing.{Knowing, gained}
+use Rattle.sh_gains.specs.Knowing.{Knowing}
 use Rattle.sh_demands.specs.Own.{redirect_judged, elements_judged, kind_judged}
+use Rattle.sh_gains.specs.Walks.{element_gained}
 
 abbrev pub word_step : List ℕ → Judged → Word → Judged
 word_step b s w = word_judged s (parts_from b w.parts)
@@ -27,10 +26,6 @@ target_step b s t = redirect_judged s (target_of b t)
 
 abbrev pub redirect_step : List ℕ → Judged → Redirect → Judged
 redirect_step b s r = target_step b s r.target
-
--- what an element leaves known of the words
-unfoldable pub element_gained : List ℕ → Knowing → Element → Knowing
-element_gained b k e = gained (words_gains (operands_in (element_from b e p.no_elements))) k
 
 unfoldable pub element_step : List ℕ → Knowing → Judged → Element → Judged
 element_step b k s e = elements_judged k s (element_from b e p.no_elements)

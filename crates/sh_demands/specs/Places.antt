@@ -17,7 +17,7 @@ use Rattle.sh_domain.specs.Gains.{words_gains}
 use Rattle.sh_domain.specs.Knowledge.{AreNumbered}
 use Rattle.sh_domain.specs.Operands.{Names, no_names}
 use Rattle.sh_demands.specs.Drops.{all_told, utility_drops, call_drops}
-use Rattle.sh_demands.specs.Knowing.{Knowing, gained}
+use Rattle.sh_gains.specs.Knowing.{Knowing, gained}
 use Rattle.sh_demands.specs.Moves.{moves_by}
 use Rattle.sh_demands.specs.Own.{own_places}
 

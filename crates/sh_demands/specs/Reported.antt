@@ -6,7 +6,7 @@ use Rattle.sh_tree.specs.declared.place.Place.{Place}
 use Rattle.sh_tree.specs.standard.program.Syntax.{Text}
 use Rattle.sh_demands.specs.declared.reports.Reports.{Reports}
 use Rattle.sh_demands.specs.Judged.{Judged}
-use Rattle.sh_demands.specs.Knowing.{Knowing}
+use Rattle.sh_gains.specs.Knowing.{Knowing}
 
 abbrev pub place : ℕ → Code → Text → Place
 place at code subject = record { at = at; code = code; subject = subject }

@@ -11,7 +11,7 @@ use Rattle.sh_domain.specs.Entries.{Entered, script_entered}
 use Rattle.sh_domain.specs.Facts.{Facts}
 use Rattle.sh_domain.specs.Gains.{Gains, redirects_gains, with_gains, through}
 use Rattle.sh_domain.specs.Needs.{word_unmet, redirects_unmet}
-use Rattle.sh_demands.specs.Knowing.{Knowing, gained}
+use Rattle.sh_gains.specs.Knowing.{Knowing, gained}
 use Rattle.sh_demands.specs.Judged.{judged, word_judged}
 use Rattle.sh_demands.specs.Own.{own_places}
 use Rattle.sh_demands.specs.Told.{Teller, items_told}

@@ -12,20 +12,14 @@ use Rattle.sh_table.specs.Calls.{table_of}
 use Rattle.sh_table.specs.Numbering.{is_numbered}
 use Rattle.sh_table.specs.standard.runs.Environment.{is_one_of}
 use Rattle.sh_domain.specs.declared.certificate.Certificate as kept
-use Rattle.sh_domain.specs.Certificates.{in_byte_order, sheet_of}
 use Rattle.sh_domain.specs.Demands.{demands}
 use Rattle.sh_domain.specs.Entries.{script_entered}
 use Rattle.sh_domain.specs.Facts.{Facts, Declared}
 use Rattle.sh_domain.specs.Names.{IsNumbering}
-use Rattle.sh_domain.specs.Sheets.{certificate_of}
-use Rattle.sh_domain.specs.Views.{Certificate}
 use Rattle.sh_demands.specs.Places.{source_of, command_places}
 use Rattle.sh_demands.specs.Told.{items_told}
 use Rattle.sh_demands.specs.Within.{command_within}
-
--- what a kept certificate of a script claims, for these numbered names
-abbrev pub kept_claims : List ℕ → Script → List Text → kept.Certificate → Certificate
-kept_claims b t names c = certificate_of (table_of b t).functions.names (sheet_of (in_byte_order names) c)
+use Rattle.sh_gains.specs.Claims.{kept_claims}
 
 -- The names of a script, whatever names are declared, no more than may be.
 pub record AreNamesOf (b : List ℕ) (t : Script) (names : List Text) : Type 0 where

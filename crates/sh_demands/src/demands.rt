@@ -10,7 +10,8 @@ ghost use Rattle.sh_demands.specs.Places.{command_places};
 ghost use Rattle.sh_demands.specs.Reported.{Adds};
 ghost use Rattle.sh_demands.specs.Told.{item_shares};
 ghost use Rattle.sh_demands.specs.ToldWalks as walks;
-ghost use Rattle.sh_demands.specs.Whole.{AreNamesOf, kept_claims};
+ghost use Rattle.sh_demands.specs.Whole.{AreNamesOf};
+ghost use Rattle.sh_gains.specs.Claims.{kept_claims};
 
 use crate::own::judge_own;
 use crate::reports::Reports;

@@ -10,12 +10,12 @@ ghost use Rattle.sh_domain.specs.Certificates as claims;
 ghost use Rattle.sh_domain.specs.Knowledge.{AreNumbered};
 ghost use Rattle.sh_demands.specs.Drops as spec;
 ghost use Rattle.sh_demands.specs.DropWalks as walks;
-ghost use Rattle.sh_demands.specs.Knowing.{knowing};
+ghost use Rattle.sh_gains.specs.Knowing.{knowing};
 ghost use Rattle.sh_demands.specs.Reported.{Adds, AddsFirst, AddsSince};
 
-use crate::known::Known;
 use crate::reports::Reports;
 use sh_domain::{Drops, Names, RowId, Rows};
+use sh_gains::Known;
 use sh_operands::unset_operands;
 use sh_table::{CallTable, WordText};
 use sh_tree::{Code, Element, is_name};

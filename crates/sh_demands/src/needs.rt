@@ -8,12 +8,12 @@ ghost use Rattle.sh_tree.specs.standard.program.Syntax as p;
 ghost use Rattle.sh_tree.specs.Lists.{parts_from};
 ghost use Rattle.sh_demands.specs.Judged.{judged, word_judged};
 ghost use Rattle.sh_demands.specs.Walks as walks;
-ghost use Rattle.sh_demands.specs.Knowing.{knowing};
+ghost use Rattle.sh_gains.specs.Knowing.{knowing};
 ghost use Rattle.sh_demands.specs.Reported.{Adds, Judges, place};
 
-use crate::gains::{gain_action, gain_assigned, gain_subject};
-use crate::known::Known;
 use crate::reports::Reports;
+use sh_gains::Known;
+use sh_gains::gains::{enter_operator, gain_action, gain_assigned};
 use sh_tree::{
     Action, Binary, Code, Expr, Items, ParameterOperator, Part, Span, Special, Subject, Word,
 };
@@ -164,19 +164,6 @@ fn want_reads(expression: &Expr, script: &[u8], known: &Known<'_>, reports: &mut
             want_assigned(*operator, *name, script, known, reports);
             want_reads(value.get(), script, known, reports)
         }
-    }
-}
-
-// If the word of `+` is expanded, its parameter is set.
-#[tactic(auto, using(crate::proofs::JudgeLemmas::actions))]
-fn enter_operator(action: Action, subject: Subject, script: &[u8], known: &mut Known<'_>)
-    ensures { knowing known.new ≡ walks.inner_gained script.now (knowing known.old) subject action }
-{
-    match action {
-        Action::Default => (),
-        Action::Assign => (),
-        Action::Fault => (),
-        Action::Alternative => gain_subject(subject, script, known),
     }
 }
 

@@ -1,49 +1,18 @@
 //! The places in a command's own words, by what is known before it (XCU 2.7, 2.9.1, 2.9.4).
-ghost use Rattle.std.specs.Prelude.{◌≡◌, fold};
+ghost use Rattle.std.specs.Prelude.{fold};
 ghost use Rattle.sh_tree.specs.declared.tree.Command.{out-Command};
-ghost use Rattle.sh_tree.specs.Lists.{elements_from, redirects_from};
+ghost use Rattle.sh_tree.specs.Lists.{redirects_from};
 ghost use Rattle.sh_tree.specs.standard.program.Trees.{kind_of};
-ghost use Rattle.sh_tree.specs.standard.program.Words.{operands_in};
-ghost use Rattle.sh_domain.specs.Gains.{words_gains};
 ghost use Rattle.sh_demands.specs.Judged.{judged};
-ghost use Rattle.sh_demands.specs.Knowing.{gained, knowing};
+ghost use Rattle.sh_gains.specs.Knowing.{knowing};
 ghost use Rattle.sh_demands.specs.Own.{own_places};
 ghost use Rattle.sh_demands.specs.OwnWalks as walks;
 ghost use Rattle.sh_demands.specs.Reported.{Adds, Judges};
 
-use crate::gains::gain_word;
-use crate::known::Known;
 use crate::needs::judge_word;
 use crate::reports::Reports;
+use sh_gains::{Known, gain_operands};
 use sh_tree::{Clause, Command, Element, Items, Kind, Redirect, Target, Word};
-
-#[tactic(auto, using(crate::proofs::OwnLemmas::gains))]
-fn gain_element(element: &Element, script: &[u8], known: &mut Known<'_>)
-    ensures { knowing known.new ≡ walks.element_gained script.now (knowing known.old) element.now }
-{
-    match element {
-        Element::Assignment { .. } => (),
-        Element::Word(word) => gain_word(word, script, known),
-        Element::Redirection(_) => (),
-    }
-}
-
-fn gain_each_element(elements: &[Element], script: &[u8], known: &mut Known<'_>)
-    ensures { knowing known.new ≡ fold (walks.element_gained script.now) (knowing known.old) elements.now }
-{
-    for element in elements {
-        gain_element(element, script, known);
-    }
-}
-
-/// What is known after the command name and the operands of a simple command. Its values and its
-/// redirections are judged there.
-#[tactic(auto, using(crate::proofs::OwnLemmas::operands_gained))]
-pub fn gain_operands(elements: &[Element], script: &[u8], known: &mut Known<'_>)
-    ensures { knowing known.new ≡ gained (words_gains (operands_in (elements_from script.now elements.now))) (knowing known.old) }
-{
-    gain_each_element(elements, script, known);
-}
 
 fn judge_words(words: &[Word], script: &[u8], known: &mut Known<'_>, reports: &mut Reports)
     ensures { Judges (knowing known.old) reports.old (knowing known.new) reports.new (λ s. fold (walks.word_step script.now) s words.now) }
@@ -133,11 +102,12 @@ fn judge_elements(
     }
 }
 
+#[tactic(auto, using(sh_gains::proofs::GainLemmas::operands_gained))]
 fn judge_simple(elements: &[Element], script: &[u8], known: &mut Known<'_>, reports: &mut Reports)
     ensures { Judges (knowing known.old) reports.old (knowing known.new) reports.new (λ s. walks.simple_step script.now s elements.now) }
 {
     let mut behind = *known;
-    gain_each_element(elements, script, &mut behind);
+    gain_operands(elements, script, &mut behind);
     judge_elements(elements, &behind, script, known, reports)
 }
 

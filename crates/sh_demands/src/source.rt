@@ -10,15 +10,14 @@ ghost use Rattle.sh_domain.specs.Knowledge.{AreNumbered};
 ghost use Rattle.sh_domain.specs.Operands.{no_names};
 ghost use Rattle.sh_domain.specs.Slots.{entry_claim};
 ghost use Rattle.sh_demands.specs.Drops.{all_told};
-ghost use Rattle.sh_demands.specs.Knowing.{knowing};
+ghost use Rattle.sh_gains.specs.Knowing.{knowing};
 ghost use Rattle.sh_demands.specs.Places.{function_drops, known_before, known_behind, source_of};
 ghost use Rattle.sh_demands.specs.Reported.{AddsFirst};
 
 use crate::drops::tell_dropped;
-use crate::known::Known;
-use crate::own::gain_operands;
 use crate::reports::Reports;
 use sh_domain::{Certificate, Drops, Facts, Knowledge, Names};
+use sh_gains::{Known, gain_operands};
 use sh_table::{CallTable, WordText};
 use sh_tree::Element;
 use std::marker::Model;

@@ -41,7 +41,7 @@ use Rattle.sh_domain.proofs.DifferLemmas.{read_is_numbered}
 use Rattle.sh_domain.proofs.KnowledgeLemmas.{in_row, number_is_name, stands_there, and_none}
 use Rattle.sh_domain.proofs.RowLemmas.{bits_at, no_bits}
 use Rattle.sh_domain.proofs.TotalLemmas.{read_has_few_commands, rows_length}
-use Rattle.sh_demands.proofs.TextLemmas.{has_texts, entered_have}
+use Rattle.sh_gains.proofs.TextLemmas.{has_texts, entered_have}
 use Rattle.sh_operands.specs.Numerals.{most}
 use Rattle.sh_find.specs.Facts as number
 use Rattle.sh_rules.specs.declared.claims.Claims.{Claims}

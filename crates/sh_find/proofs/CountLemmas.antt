@@ -29,8 +29,7 @@ use Rattle.sh_domain.specs.Views.{Slot}
 use Rattle.sh_domain.proofs.EachLemmas.{each_passes, each_weaker}
 use Rattle.sh_domain.proofs.KnowledgeLemmas.{has_number, stands_there}
 use Rattle.sh_domain.proofs.OrderLemmas.{among_all, known_parts, known_within, nowhere_known}
-use Rattle.sh_demands.proofs.TextLemmas.{has_texts, own_texts}
-use Rattle.sh_demands.proofs.WholeLemmas.{table_texts}
+use Rattle.sh_gains.proofs.TextLemmas.{has_texts, own_texts, table_texts}
 use Rattle.sh_rules.proofs.PrefixLemmas.{table_defines}
 use Rattle.sh_counts.specs.Equations.{worth}
 use Rattle.sh_tally.specs.declared.bounds.Tally.{Tally}

@@ -29,7 +29,7 @@ use Rattle.sh_domain.proofs.CountedLemmas.{tree_given, as_many}
 use Rattle.sh_domain.proofs.NumberCounts.{next_given, held}
 use Rattle.sh_domain.proofs.NumberLemmas.{read_given}
 use Rattle.sh_domain.proofs.StandLemmas.{all_stand}
-use Rattle.sh_demands.proofs.LocatedLemmas.{script_listed}
+use Rattle.sh_gains.proofs.LocatedLemmas.{script_listed}
 
 -- Numbers in order
 

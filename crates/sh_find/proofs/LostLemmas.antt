@@ -47,8 +47,7 @@ use Rattle.sh_domain.specs.Table.{Manner, Nameless, Utility, behind_words, is_re
 use Rattle.sh_domain.specs.Table as table
 use Rattle.sh_domain.specs.Views.{Slot, Before, AfterZero, AfterNonzero, Head, Entry, ReturnsZero, ReturnsNonzero, Seen, After, Both, Loss, OfNames, OfFunction, OfUnseen, at, gaining, gaining_names, if_nonzero, if_zero, in_any_case, stepped, Call, Count, Define}
 use Rattle.sh_domain.proofs.EnteredWalk.{script_walked}
-use Rattle.sh_demands.proofs.ReachLemmas.{all_stay, seen_reach}
-use Rattle.sh_demands.proofs.SightLemmas.{Seen as Seen_by, front, rest_of}
+use Rattle.sh_gains.proofs.SightLemmas.{all_stay, seen_reach, Seen as Seen_by, front, rest_of}
 use Rattle.sh_domain.proofs.StandLemmas.{all_stand}
 use Rattle.sh_rules.specs.Asked.{has_numbered_prefixes}
 use Rattle.sh_rules.specs.CommandBounds.{prefixes_in}

@@ -27,8 +27,7 @@ use Rattle.sh_domain.specs.Table.{behind_words}
 use Rattle.sh_domain.specs.Views as views
 use Rattle.sh_domain.specs.Views.{Before, Seen, at, gaining}
 use Rattle.sh_domain.proofs.OrderLemmas.{within_nowhere}
-use Rattle.sh_demands.specs.Judged.{inner_gains}
-use Rattle.sh_demands.specs.Knowing.{action_gains}
+use Rattle.sh_gains.specs.Knowing.{inner_gains, action_gains}
 use Rattle.sh_rules.specs.Settings.{gained}
 use Rattle.sh_rules.specs.Walks.{facts_in}
 use Rattle.sh_rules.proofs.GainLemmas.{none_gained}

@@ -10,13 +10,12 @@ ghost use Rattle.sh_domain.specs.Knowledge.{knowledge_facts};
 ghost use Rattle.sh_domain.specs.Table.{behind_words};
 ghost use Rattle.sh_domain.specs.Views as views;
 ghost use Rattle.sh_domain.specs.Views.{After, Seen, at, gaining, gaining_names};
-ghost use Rattle.sh_demands.specs.Knowing.{action_gains};
+ghost use Rattle.sh_gains.specs.Knowing.{action_gains};
 ghost use Rattle.sh_find.specs.Sweeps.{ArePassed, IsPassed, IsReady, Knows, KnowsBehind, known_behind};
 
 use crate::subject::Subject;
-use sh_demands::Known;
-use sh_demands::own::gain_operands;
 use sh_domain::{Certificate, FlowRule, Knowledge};
+use sh_gains::{Known, gain_operands};
 use sh_rules::walk::Course;
 use sh_rules::{
     Behind, enter_operator, gain_action, gain_assigned, gain_redirects, gain_variable, gain_word,

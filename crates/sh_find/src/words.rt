@@ -9,7 +9,7 @@ ghost use Rattle.sh_domain.specs.Gains.{and_gains, assigned_in, expanded_gains, 
 ghost use Rattle.sh_domain.specs.Knowledge.{knowledge_facts};
 ghost use Rattle.sh_domain.specs.Table.{behind_words};
 ghost use Rattle.sh_domain.specs.Views.{Before, at};
-ghost use Rattle.sh_demands.specs.Knowing.{action_gains};
+ghost use Rattle.sh_gains.specs.Knowing.{action_gains};
 ghost use Rattle.sh_find.specs.Sweeps.{AreElements, Gained, IsIn, IsPart, IsReady, IsSwept, IsWord};
 
 use crate::draft::Draft;

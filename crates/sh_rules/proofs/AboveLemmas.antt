@@ -24,7 +24,7 @@ use Rattle.sh_domain.specs.Views as views
 use Rattle.sh_domain.proofs.EachLemmas.{each_join, each_parts, each_none, each_of_all}
 use Rattle.sh_domain.proofs.MonotoneLemmas.{step_grows, seen_grows, meet_grows, told_none, fits_below}
 use Rattle.sh_domain.proofs.OrderLemmas.{known_within, known_parts, within_nowhere, nowhere_known, within_itself, within_through, within_test, meet_greatest}
-use Rattle.sh_demands.specs.Knowing as knowing
+use Rattle.sh_gains.specs.Knowing as knowing
 use Rattle.sh_rules.specs.Settings.{Setting, certificate, known_at, gained, without_job}
 use Rattle.sh_rules.specs.Asking.{Asking}
 use Rattle.sh_rules.specs.Asked.{ByConstraints, has_numbered_prefixes}

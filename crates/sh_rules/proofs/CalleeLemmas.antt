@@ -10,7 +10,7 @@ use Rattle.sh_table.specs.Profile.{Static}
 use Rattle.sh_table.specs.standard.runs.Environment.{is_one_of}
 use Rattle.sh_domain.specs.Table.{is_special}
 use Rattle.sh_table.proofs.FunctionLemmas.{is_placed}
-use Rattle.sh_demands.proofs.LossLemmas.{special_same}
+use Rattle.sh_gains.proofs.KindLemmas.{special_same}
 use Rattle.sh_rules.specs.TextTells.{calls_by}
 
 -- the table has a function for a command where one is called

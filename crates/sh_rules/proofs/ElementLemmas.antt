@@ -22,7 +22,7 @@ use Rattle.sh_domain.specs.Gains.{no_gains, named, word_gains, words_gains, redi
 use Rattle.sh_domain.specs.Knowledge.{knowledge_facts}
 use Rattle.sh_domain.specs.Table.{prefixes, values_gains, assignments_gains, redirections_gains, is_redirected}
 use Rattle.sh_domain.specs.Views.{Before}
-use Rattle.sh_demands.specs.Knowing as knowing
+use Rattle.sh_gains.specs.Knowing as knowing
 use Rattle.sh_rules.specs.Settings.{Setting, gained, known_at}
 use Rattle.sh_rules.specs.Elements.{value_gained, prefix_gained, target_gained, assigns, redirects, prefix_added}
 use Rattle.sh_rules.specs.SimpleBounds as simple

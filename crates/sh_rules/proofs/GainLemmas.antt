@@ -22,11 +22,10 @@ use Rattle.sh_domain.specs.Knowledge as knowledge
 use Rattle.sh_domain.specs.Knowledge.{knowledge_facts}
 use Rattle.sh_domain.specs.declared.knowledge.Knowledge.{Knowledge}
 use Rattle.sh_domain.proofs.KnownNameLemmas.{names_suffice}
-use Rattle.sh_demands.specs.Judged.{inner_gains}
-use Rattle.sh_demands.specs.Knowing.{Knowing, action_gains}
-use Rattle.sh_demands.specs.Knowing as knowing
-use Rattle.sh_demands.specs.Walks.{action_gained, subject_gained, expression_assigned}
-use Rattle.sh_demands.proofs.KnowingLemmas.{gained_none, gained_both}
+use Rattle.sh_gains.specs.Knowing.{inner_gains, Knowing, action_gains}
+use Rattle.sh_gains.specs.Knowing as knowing
+use Rattle.sh_gains.specs.Walks.{action_gained, subject_gained, expression_assigned}
+use Rattle.sh_gains.proofs.KnowingLemmas.{gained_none, gained_both}
 use Rattle.sh_rules.specs.Settings.{Setting, gained}
 use Rattle.sh_rules.specs.declared.claims.Claims.{Claims}
 use Rattle.sh_rules.specs.Walks.{facts_in, setting}

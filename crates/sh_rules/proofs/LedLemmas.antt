@@ -19,8 +19,7 @@ use Rattle.sh_domain.specs.Facts.{Facts, NotReached, meet}
 use Rattle.sh_domain.specs.Gains.{Gains, no_gains, and_gains, named, job, sure, operator_gains, assigned_in, part_gains, word_gains, words_gains, expanded_gains, operands_gains, redirect_gains, redirects_gains}
 use Rattle.sh_domain.specs.Views.{Slot, Before, AfterZero, AfterNonzero, Head, Entry, Seen, After, Both, Each, if_zero, if_nonzero, at, gaining}
 use Rattle.sh_domain.specs.Views as views
-use Rattle.sh_demands.specs.Judged.{inner_gains}
-use Rattle.sh_demands.specs.Knowing.{action_gains}
+use Rattle.sh_gains.specs.Knowing.{inner_gains, action_gains}
 use Rattle.sh_rules.specs.Settings.{Setting, known_at, gained, without_job}
 use Rattle.sh_rules.specs.Behind.{Behind, both, either, in_any_case, swapped, link_known, linked, turns, falls, started, parts_behind, pipeline_behind, link_behind, links_behind, list_behind, behind_known, item_behind, items_behind}
 use Rattle.sh_rules.specs.Walked.{Met, Trail, trail, trail_gained, Course, course, branch_body, branch_left, clause_body, clause_left, nothing_falls, items_walked, list_walked, links_walked, pipeline_walked, commands_walked, command_walked, kind_walked, elements_walked, redirect_walked, redirects_walked, branches_walked, otherwise_walked, for_words_walked, words_walked, clauses_walked, patterns_walked, word_walked, part_walked, operator_walked, expression_walked, operands_walked}

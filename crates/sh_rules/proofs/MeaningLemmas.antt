@@ -24,7 +24,7 @@ use Rattle.sh_domain.specs.Views.{Certificate, Slot, Before, AfterZero, AfterNon
 use Rattle.sh_domain.specs.Views as views
 use Rattle.sh_domain.proofs.KnowledgeLemmas.{in_row, numbered_only}
 use Rattle.sh_domain.proofs.MeetLemmas.{known_same, seen_is_meet}
-use Rattle.sh_demands.specs.Knowing as knowing
+use Rattle.sh_gains.specs.Knowing as knowing
 use Rattle.sh_rules.specs.Settings.{Setting, certificate, known_at, gained, without_job}
 use Rattle.sh_rules.specs.Meaning.{sees, knows, met_of, with_met, WalkEnters}
 use Rattle.sh_rules.specs.Walks.{head_of}

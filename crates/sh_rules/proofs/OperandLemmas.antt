@@ -18,8 +18,8 @@ use Rattle.sh_domain.specs.Sights.{go_on, read_operands, takes_next}
 use Rattle.sh_domain.specs.Views.{Lose, step, where_known}
 use Rattle.sh_domain.proofs.KnownNameLemmas.{lost_one_by_one}
 use Rattle.sh_domain.proofs.MeetLemmas.{known_same}
-use Rattle.sh_demands.specs.Drops.{listed}
-use Rattle.sh_demands.proofs.LossLemmas.{texts_listed}
+use Rattle.sh_gains.specs.Statics.{listed}
+use Rattle.sh_gains.proofs.KindLemmas.{texts_listed}
 use Rattle.sh_operands.specs.declared.options.Letters.{Letters}
 use Rattle.sh_operands.specs.Numerals.{capped}
 use Rattle.sh_operands.specs.Texts.{no_letters, removal_in, takes_variables, takes_functions, unset_behind, positional_at}

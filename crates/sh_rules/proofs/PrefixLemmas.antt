@@ -18,9 +18,8 @@ use Rattle.sh_table.specs.standard.runs.Environment.{is_one_of}
 use Rattle.sh_domain.specs.Sights.{Sight, sight, in_row, in_target, in_redirect, in_element, in_kind, in_command, operand_sights}
 use Rattle.sh_domain.specs.Table.{prefixes}
 use Rattle.sh_domain.proofs.EnteredWalk.{script_walked}
-use Rattle.sh_demands.proofs.DefinedLemmas.{functions_same}
-use Rattle.sh_demands.proofs.ReachLemmas.{seen_reach}
-use Rattle.sh_demands.proofs.SightLemmas.{Seen, front, rest_of}
+use Rattle.sh_gains.proofs.DefinedLemmas.{functions_same}
+use Rattle.sh_gains.proofs.SightLemmas.{seen_reach, Seen, front, rest_of}
 use Rattle.sh_domain.proofs.StandLemmas.{all_stand}
 use Rattle.sh_rules.specs.CommandBounds.{prefixes_in}
 use Rattle.sh_rules.specs.Asked.{PrefixesAreNumbered, TableDefines, has_numbered_prefixes}

@@ -23,7 +23,7 @@ use Rattle.sh_domain.specs.Knowledge.{knowledge_facts}
 use Rattle.sh_domain.specs.Operands.{Names, no_names}
 use Rattle.sh_domain.specs.Table.{prefixes}
 use Rattle.sh_domain.specs.Views.{Before, where_reached}
-use Rattle.sh_demands.specs.Drops.{listed}
+use Rattle.sh_gains.specs.Statics.{listed}
 use Rattle.sh_operands.specs.declared.options.Letters.{Letters}
 use Rattle.sh_operands.specs.Texts.{no_letters, removal_in, takes_variables, takes_functions, unset_behind}
 use Rattle.sh_rules.specs.declared.claims.Claims.{Claims}

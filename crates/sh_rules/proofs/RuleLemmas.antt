@@ -23,9 +23,8 @@ use Rattle.sh_domain.specs.Sheets.{certificate_of}
 use Rattle.sh_domain.specs.Table.{is_redirected}
 use Rattle.sh_domain.specs.Views.{Before}
 use Rattle.sh_domain.proofs.TotalLemmas.{rows_length}
-use Rattle.sh_demands.specs.Whole.{kept_claims}
-use Rattle.sh_demands.proofs.TextLemmas.{has_texts, own_texts}
-use Rattle.sh_demands.proofs.WholeLemmas.{table_texts}
+use Rattle.sh_gains.specs.Claims.{kept_claims}
+use Rattle.sh_gains.proofs.TextLemmas.{has_texts, own_texts, table_texts}
 use Rattle.sh_operands.specs.Numerals.{most}
 use Rattle.sh_rules.specs.declared.claims.Claims.{Claims}
 use Rattle.sh_rules.specs.Asking.{Asking}

@@ -43,8 +43,7 @@ use Rattle.sh_domain.specs.Entries.{Around, alone, in_function, is_long, item_ru
 use Rattle.sh_domain.specs.Facts.{Facts, meet}
 use Rattle.sh_domain.specs.Gains.{named, assigned_in}
 use Rattle.sh_domain.specs.Views.{Before, Entry, Head}
-use Rattle.sh_demands.specs.Judged.{inner_gains}
-use Rattle.sh_demands.specs.Knowing.{action_gains}
+use Rattle.sh_gains.specs.Knowing.{inner_gains, action_gains}
 use Rattle.sh_rules.specs.Settings.{Setting, known_at, gained, without_job}
 use Rattle.sh_rules.specs.Behind.{Behind, both, falls, in_any_case, link_known, started, turns}
 use Rattle.sh_rules.specs.Walked.{Met, Trail, trail, trail_gained, Course, course, branch_body, branch_left, clause_body, clause_left, nothing_falls, items_walked, list_walked, links_walked, pipeline_walked, commands_walked, command_walked, kind_walked, elements_walked, redirect_walked, redirects_walked, branches_walked, otherwise_walked, for_words_walked, words_walked, clauses_walked, patterns_walked, word_walked, part_walked, operator_walked, expression_walked, operands_walked, script_walked}

@@ -11,7 +11,7 @@ use Rattle.sh_domain.specs.Facts.{Facts, Claim, facts}
 use Rattle.sh_domain.specs.Gains.{Gains, job, with_gains}
 use Rattle.sh_domain.specs.Sheets.{certificate_of}
 use Rattle.sh_domain.specs.Views.{Certificate, Slot, Lose, step}
-use Rattle.sh_demands.specs.Knowing.{among}
+use Rattle.sh_gains.specs.Knowing.{among}
 
 pub record Setting : Type 0 where
   pub script : Text

@@ -10,7 +10,7 @@ use Rattle.sh_table.specs.standard.runs.Numbers.{number_in}
 use Rattle.sh_table.specs.standard.runs.Operands.{unset_operands}
 use Rattle.sh_table.specs.standard.runs.Operands as o
 use Rattle.sh_domain.specs.Operands.{Names, removed, status}
-use Rattle.sh_demands.specs.Drops.{listed}
+use Rattle.sh_gains.specs.Statics.{listed}
 use Rattle.sh_operands.specs.Numerals.{capped}
 use Rattle.sh_operands.specs.Texts.{positional_at}
 

@@ -14,8 +14,7 @@ use Rattle.sh_domain.specs.Entries.{Around, alone, in_loop, in_function, is_long
 use Rattle.sh_domain.specs.Facts.{Facts, NotReached, meet}
 use Rattle.sh_domain.specs.Gains.{Gains, named, assigned_in, words_gains}
 use Rattle.sh_domain.specs.Views.{Before, Head, Entry}
-use Rattle.sh_demands.specs.Judged.{inner_gains}
-use Rattle.sh_demands.specs.Knowing.{action_gains}
+use Rattle.sh_gains.specs.Knowing.{inner_gains, action_gains}
 use Rattle.sh_rules.specs.Settings.{Setting, known_at, gained, without_job}
 use Rattle.sh_rules.specs.Behind.{Behind, both, in_any_case, link_known, turns, falls, started, pipeline_behind, link_behind, item_behind}
 

@@ -18,8 +18,8 @@ ghost use Rattle.sh_rules.specs.Walks.{facts_in, setting};
 
 use crate::claims::Claims;
 use crate::gains::{gain_variable, gain_word};
-use sh_demands::{Known, gain_target, own};
 use sh_domain::{Knowledge, NumberSet};
+use sh_gains::{Known, gain_operands, gain_target};
 use sh_tree::{Element, Target};
 
 /// What is known after the words of a simple command. Its redirections and its values are judged
@@ -33,7 +33,7 @@ pub fn behind(claims: &Claims<'_>, number: u32, elements: &[Element]) -> Knowled
         knowledge: Knowledge::NotReached,
     };
     claims.before_into(number, &mut behind.knowledge);
-    own::gain_operands(elements, claims.script, &mut behind);
+    gain_operands(elements, claims.script, &mut behind);
     behind.knowledge
 }
 

@@ -3,14 +3,13 @@ ghost use Rattle.std.specs.Prelude.{◌≡◌, [], ◌∷◌};
 ghost use Rattle.sh_tree.specs.Lists.{parts_from, redirects_from};
 ghost use Rattle.sh_tree.specs.standard.program.Trees.{expression_of, parameter_of};
 ghost use Rattle.sh_domain.specs.Gains.{assigned_in, named, redirects_gains, sure, word_gains};
-ghost use Rattle.sh_demands.specs.Judged.{inner_gains};
-ghost use Rattle.sh_demands.specs.Knowing.{action_gains};
+ghost use Rattle.sh_gains.specs.Knowing.{inner_gains, action_gains};
 ghost use Rattle.sh_rules.specs.Settings.{gained};
 ghost use Rattle.sh_rules.specs.Walks.{facts_in, setting};
 
 use crate::claims::Claims;
-use sh_demands::{Known, gains as words};
 use sh_domain::Knowledge;
+use sh_gains::{Known, gains as words};
 use sh_tree::{Action, Expr, Redirect, Subject, Word};
 
 /// A variable is set from here on.

@@ -12,7 +12,7 @@ ghost use Rattle.sh_domain.specs.Facts.{start_facts};
 ghost use Rattle.sh_domain.specs.Faults.{faults, least};
 ghost use Rattle.sh_domain.specs.Names.{IsNumbering};
 ghost use Rattle.sh_domain.specs.Table.{is_redirected};
-ghost use Rattle.sh_demands.specs.Whole.{kept_claims};
+ghost use Rattle.sh_gains.specs.Claims.{kept_claims};
 ghost use Rattle.sh_rules.specs.Bounds as bounds;
 ghost use Rattle.sh_rules.specs.CommandBounds as commands;
 ghost use Rattle.sh_rules.specs.Visits as spec;

@@ -1,7 +1,7 @@
 use Rattle.sh_domain.specs.Demands.{demands}
 use Rattle.sh_domain.specs.Facts.{Facts}
 use Rattle.sh_tree.specs.standard.program.Trees.{script_of}
-use Rattle.sh_demands.specs.Whole.{kept_claims}
+use Rattle.sh_gains.specs.Claims.{kept_claims}
 use Rattle.sh_demands.proofs.ReportLemmas.{places_are, some_are}
 use Rattle.sh_demands.proofs.WholeLemmas.{names_numbered, table_text, whole_told}
 use Rattle.sh_demands.proofs.demands.check_demands.Goals as goal

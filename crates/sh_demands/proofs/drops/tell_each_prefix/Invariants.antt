@@ -1,5 +1,5 @@
 use Rattle.std.proofs.Common.{fold, take}
-use Rattle.sh_demands.specs.Knowing.{knowing}
+use Rattle.sh_gains.specs.Knowing.{knowing}
 use Rattle.sh_demands.specs.DropWalks as walks
 use Rattle.sh_demands.specs.Reported.{AddsSince}
 use Rattle.sh_demands.proofs.drops.tell_each_prefix.Given as goal

@@ -1,5 +1,5 @@
 use Rattle.std.proofs.Common.{fold, take}
-use Rattle.sh_demands.specs.Knowing.{knowing}
+use Rattle.sh_gains.specs.Knowing.{knowing}
 use Rattle.sh_demands.specs.Walks as walks
 use Rattle.sh_demands.specs.Reported.{Adds}
 use Rattle.sh_demands.proofs.needs.+reads.Given as goal

@@ -1,5 +1,5 @@
 use Rattle.std.proofs.Common.{fold, take}
-use Rattle.sh_demands.specs.Knowing.{knowing}
+use Rattle.sh_gains.specs.Knowing.{knowing}
 use Rattle.sh_demands.specs.OwnWalks as walks
 use Rattle.sh_demands.specs.Reported.{Judges}
 use Rattle.sh_demands.proofs.own.judge_redirects.Given as goal

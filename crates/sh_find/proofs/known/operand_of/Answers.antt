@@ -1,5 +1,5 @@
 use Rattle.sh_tree.specs.standard.program.Trees.{parameter_of}
-use Rattle.sh_demands.specs.Judged.{inner_gains}
+use Rattle.sh_gains.specs.Knowing.{inner_gains}
 use Rattle.sh_rules.specs.Settings.{gained}
 use Rattle.sh_rules.specs.Walks.{facts_in}
 use Rattle.sh_find.proofs.GreatestLemmas.{numbered}

@@ -1,7 +1,7 @@
 use Rattle.std.proofs.Common.{sym, ap, ◌∙◌}
 use Rattle.sh_domain.specs.Certificates.{in_byte_order}
 use Rattle.sh_domain.specs.Facts.{facts}
-use Rattle.sh_demands.proofs.KnowingLemmas.{knowing_same}
+use Rattle.sh_gains.proofs.KnowingLemmas.{knowing_same}
 use Rattle.sh_demands.proofs.WholeLemmas.{claim_before}
 use Rattle.sh_demands.proofs.source.Source.before.Goals as goal
 

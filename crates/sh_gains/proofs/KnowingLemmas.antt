@@ -13,7 +13,7 @@ use Rattle.sh_domain.specs.Knowledge as knowledge
 use Rattle.sh_domain.specs.Knowledge.{knowledge_facts}
 use Rattle.sh_domain.specs.declared.knowledge.Knowledge.{Knowledge}
 use Rattle.sh_domain.proofs.KnownNameLemmas.{names_suffice}
-use Rattle.sh_demands.specs.Knowing.{Knowing, among, gained}
+use Rattle.sh_gains.specs.Knowing.{Knowing, among, gained}
 
 known_same : (v w f : Text → Bool) (a b : ℕ) → ((x : Text) → v x ≡ w x) → a ≡ b → Known v f a ≡ Known w f b
 known_same v w f a b p e = let vars = fun_ext p in cc

@@ -1,5 +1,5 @@
 -- What is known after a piece of a tree, by the pieces one level below it.
-use Rattle.std.proofs.Common.{◌≡◌, ℕ, Bool, true, false, Option, List, [], ◌∷◌, fold, refl, ap, ◌∙◌}
+use Rattle.std.proofs.Common.{◌≡◌, ℕ, Bool, true, false, Option, List, [], ◌∷◌, fold, refl, ap, ◌∙◌, sym}
 use Rattle.sh_tree.specs.declared.tree.Action.{Action}
 use Rattle.sh_tree.specs.declared.tree.Action.TheVariants as action
 use Rattle.sh_tree.specs.declared.tree.Binary.{Binary}
@@ -26,15 +26,18 @@ use Rattle.sh_tree.specs.declared.tree.Target.TheVariants as target
 use Rattle.sh_tree.specs.declared.tree.Unary.{Unary}
 use Rattle.sh_tree.specs.declared.tree.Word.{Word}
 use Rattle.sh_tree.specs.standard.Tree.{text_of}
-use Rattle.sh_tree.specs.Lists.{parts_from, words_from, operands_from, redirects_from}
+use Rattle.sh_tree.specs.Lists.{parts_from, words_from, operands_from, redirects_from, element_from, elements_from}
 use Rattle.sh_tree.specs.standard.program.Syntax as p
 use Rattle.sh_tree.specs.standard.program.Syntax.{Text}
 use Rattle.sh_tree.specs.standard.program.Trees as trees
 use Rattle.sh_tree.proofs.ProgramRules as rules
 use Rattle.sh_domain.specs.Gains.{Gains, no_gains, named, job, and_gains, sure, surely, operator_gains, assigned_in, operands_assigned, part_gains, word_gains, expanded_gains, operands_gains, words_gains, redirect_gains, redirects_gains}
-use Rattle.sh_demands.specs.Knowing.{Knowing, gained, action_gains, may_stop}
-use Rattle.sh_demands.specs.Walks.{special_gained, subject_gained, action_gained, operator_gained, part_gained, word_gained, redirect_gained, expression_gained, step_gained, expression_assigned, step_assigned}
-use Rattle.sh_demands.proofs.KnowingLemmas.{gained_none, gained_both, named_both}
+use Rattle.sh_gains.specs.Knowing.{Knowing, gained, action_gains, may_stop, inner_gains}
+use Rattle.sh_gains.specs.Walks.{special_gained, subject_gained, action_gained, operator_gained, part_gained, word_gained, redirect_gained, expression_gained, step_gained, expression_assigned, step_assigned, element_gained, inner_gained}
+use Rattle.sh_gains.proofs.KnowingLemmas.{gained_none, gained_both, named_both}
+use Rattle.sh_tree.specs.declared.tree.Element.{Element, Assignment', Word', Redirection'}
+use Rattle.sh_tree.specs.declared.tree.Element.TheVariants as element
+use Rattle.sh_tree.specs.standard.program.Words.{operands_in}
 
 -- what is gained is known by an equation
 same : {g h : Gains} (k : Knowing) → g ≡ h → gained g k ≡ gained h k
@@ -110,6 +113,24 @@ unfolding action_gained action_gains
 action_gained-Alternative b k s = gained_none k
 
 pub ruleset actions = (action_gained-Default, action_gained-Assign, action_gained-Fault, action_gained-Alternative)
+
+pub inner_gained-Default : (b : List ℕ) (k : Knowing) (s : Subject) → inner_gained b k s action.Default ≡ k
+unfolding inner_gained inner_gains
+inner_gained-Default b k s = gained_none k
+
+pub inner_gained-Assign : (b : List ℕ) (k : Knowing) (s : Subject) → inner_gained b k s action.Assign ≡ k
+unfolding inner_gained inner_gains
+inner_gained-Assign b k s = gained_none k
+
+pub inner_gained-Fault : (b : List ℕ) (k : Knowing) (s : Subject) → inner_gained b k s action.Fault ≡ k
+unfolding inner_gained inner_gains
+inner_gained-Fault b k s = gained_none k
+
+pub inner_gained-Alternative : (b : List ℕ) (k : Knowing) (s : Subject) → inner_gained b k s action.Alternative ≡ subject_gained b k s
+unfolding inner_gained inner_gains subject_gained
+inner_gained-Alternative b k s = refl
+
+pub ruleset entered = (inner_gained-Default, inner_gained-Assign, inner_gained-Fault, inner_gained-Alternative)
 
 use_gains : (q : p.Parameter) (a : Action) (colon : Bool) (w : p.Word) → operator_gains q (p.Use a colon w) ≡ action_gains q a
 unfolding operator_gains action_gains
@@ -324,3 +345,37 @@ unfolding redirect_gains
 redirect_gains-Here b h = ap redirect_gains (rules.target_of-Here b h)
 
 pub ruleset targets = (redirect_gains-File, redirect_gains-Here)
+
+-- operands
+
+lone : (k : Knowing) (w : p.Word) → gained (words_gains (p.more_words w p.no_words)) k ≡ gained (word_gains w) k
+unfolding words_gains
+lone k w = gained_both (word_gains w) no_gains k ∙ gained_none (gained (word_gains w) k)
+
+pub element_gained-Assignment : (b : List ℕ) (k : Knowing) (s : Span) (w : Word) → element_gained b k (element.Assignment s w) ≡ k
+unfolding element_gained operands_in words_gains
+element_gained-Assignment b k s w = ap (λ es. gained (words_gains (operands_in es)) k) (rules.element_from-Assignment b s w p.no_elements) ∙ gained_none k
+
+pub element_gained-Word : (b : List ℕ) (k : Knowing) (w : Word) → element_gained b k (element.Word w) ≡ gained (word_gains (parts_from b w.parts)) k
+unfolding element_gained operands_in
+element_gained-Word b k w = ap (λ es. gained (words_gains (operands_in es)) k) (rules.element_from-Word b w p.no_elements) ∙ lone k (parts_from b w.parts)
+
+pub element_gained-Redirection : (b : List ℕ) (k : Knowing) (r : Redirect) → element_gained b k (element.Redirection r) ≡ k
+unfolding element_gained operands_in words_gains
+element_gained-Redirection b k r = ap (λ es. gained (words_gains (operands_in es)) k) (rules.element_from-Redirection b r p.no_elements) ∙ gained_none k
+
+pub ruleset elements = (element_gained-Assignment, element_gained-Word, element_gained-Redirection)
+
+gained_behind : (b : List ℕ) (k : Knowing) (e : Element) (rest : p.Elements)
+    → gained (words_gains (operands_in (element_from b e rest))) k ≡ gained (words_gains (operands_in rest)) (element_gained b k e)
+unfolding element_gained operands_in element_from words_gains
+gained_behind b k (Assignment' name s shape row) rest = ap (gained (words_gains (operands_in rest))) (sym (gained_none k))
+gained_behind b k (Word' s shape row) rest =
+    gained_both (word_gains (trees.word_of b row)) (words_gains (operands_in rest)) k
+    ∙ ap (gained (words_gains (operands_in rest))) (sym (lone k (trees.word_of b row)))
+gained_behind b k (Redirection' at number target) rest = ap (gained (words_gains (operands_in rest))) (sym (gained_none k))
+
+pub operands_gained : (b : List ℕ) (k : Knowing) (es : List Element) → gained (words_gains (operands_in (elements_from b es))) k ≡ fold (element_gained b) k es
+unfolding operands_in elements_from words_gains
+operands_gained b k [] = gained_none k
+operands_gained b k (e ∷ es) = gained_behind b k e (elements_from b es) ∙ operands_gained b (element_gained b k e) es

@@ -13,7 +13,7 @@ use Rattle.sh_table.specs.Surroundings.{Surroundings, Located, outside, items_lo
 use Rattle.sh_table.specs.standard.runs.Environment.{is_one_of}
 use Rattle.sh_domain.specs.Entries.{Entered, script_entered}
 use Rattle.sh_domain.specs.Rules.{defined_by, functions_of}
-use Rattle.sh_demands.proofs.LocatedLemmas.{script_listed}
+use Rattle.sh_gains.proofs.LocatedLemmas.{script_listed}
 
 -- whether the name is that one
 abbrev is_it : Text → Option Text → Bool

@@ -1,7 +1,7 @@
 use Rattle.std.proofs.Common.{◌≡◌, fold, take}
-use Rattle.sh_demands.specs.Knowing.{knowing}
-use Rattle.sh_demands.specs.Walks as walks
-use Rattle.sh_demands.proofs.gains.gain_each_word.Given as goal
+use Rattle.sh_gains.specs.Knowing.{knowing}
+use Rattle.sh_gains.specs.Walks as walks
+use Rattle.sh_gains.proofs.gains.gain_each_word.Given as goal
 
 -- what is known so far is what the pieces so far leave known
 abbrev pub invariant-loop-word : goal.invariant-loop-word

@@ -1,7 +1,7 @@
 use Rattle.std.proofs.Common.{◌≡◌, fold, take}
-use Rattle.sh_demands.specs.Knowing.{knowing}
-use Rattle.sh_demands.specs.Walks as walks
-use Rattle.sh_demands.proofs.gains.+assigned.Given as goal
+use Rattle.sh_gains.specs.Knowing.{knowing}
+use Rattle.sh_gains.specs.Walks as walks
+use Rattle.sh_gains.proofs.gains.+assigned.Given as goal
 
 -- what is known so far is what the pieces so far leave known
 abbrev pub invariant-gain_steps-loop-link : goal.invariant-gain_steps-loop-link

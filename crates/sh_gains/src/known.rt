@@ -3,7 +3,7 @@ ghost use Rattle.std.specs.Prelude.{◌≡◌, [], ◌∷◌};
 ghost use Rattle.sh_domain.specs.Demands as demands;
 ghost use Rattle.sh_domain.specs.Facts.{claims, Variable, Parameters};
 ghost use Rattle.sh_domain.specs.Gains.{named};
-ghost use Rattle.sh_demands.specs.Knowing.{gained, knowing};
+ghost use Rattle.sh_gains.specs.Knowing.{gained, knowing};
 
 use sh_domain::{Knowledge, Names};
 

@@ -9,7 +9,7 @@ use Rattle.sh_tree.specs.standard.program.Syntax.{Text, Parameter}
 use Rattle.sh_table.specs.standard.runs.Environment.{is_one_of}
 use Rattle.sh_domain.specs.Facts.{Facts}
 use Rattle.sh_domain.specs.Knowledge.{knowledge_facts}
-use Rattle.sh_demands.specs.declared.known.Known.{Known}
+use Rattle.sh_gains.specs.declared.known.Known.{Known}
 use Rattle.sh_domain.specs.Gains.{Gains, no_gains, sure, with_gains}
 
 pub record Knowing : Type 0 where
@@ -33,6 +33,11 @@ unfoldable pub action_gains : Parameter → Action → Gains
 action_gains p action.Assign = sure p
 action_gains p action.Fault = sure p
 action_gains p _ = no_gains
+
+-- where the word of `+` is expanded its parameter is set
+unfoldable pub inner_gains : Parameter → Action → Gains
+inner_gains parameter action.Alternative = sure parameter
+inner_gains parameter _ = no_gains
 
 -- `&&` and `||` may skip the operand after them
 unfoldable pub may_stop : Binary → Bool

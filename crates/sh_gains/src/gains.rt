@@ -2,11 +2,11 @@
 //! if its parameter is not set.
 ghost use Rattle.std.specs.Prelude.{◌≡◌, fold};
 ghost use Rattle.sh_tree.specs.Lists.{parts_from, words_from, redirects_from};
-ghost use Rattle.sh_tree.specs.standard.program.Trees.{parameter_of, target_of};
+ghost use Rattle.sh_tree.specs.standard.program.Trees.{target_of};
 ghost use Rattle.sh_domain.specs.Gains.{sure, word_gains, words_gains, redirect_gains, redirects_gains};
-ghost use Rattle.sh_demands.specs.Knowing.{gained, knowing};
-ghost use Rattle.sh_demands.specs.Knowing as knowing;
-ghost use Rattle.sh_demands.specs.Walks as walks;
+ghost use Rattle.sh_gains.specs.Knowing.{gained, knowing};
+ghost use Rattle.sh_gains.specs.Knowing as knowing;
+ghost use Rattle.sh_gains.specs.Walks as walks;
 
 use crate::known::Known;
 use sh_tree::{
@@ -51,6 +51,19 @@ pub fn gain_action(action: Action, subject: Subject, script: &[u8], known: &mut 
         Action::Assign => gain_subject(subject, script, known),
         Action::Fault => gain_subject(subject, script, known),
         Action::Alternative => (),
+    }
+}
+
+/// If the word of `+` is expanded, its parameter is set.
+#[tactic(auto, using(crate::proofs::GainLemmas::entered))]
+pub fn enter_operator(action: Action, subject: Subject, script: &[u8], known: &mut Known<'_>)
+    ensures { knowing known.new ≡ walks.inner_gained script.now (knowing known.old) subject action }
+{
+    match action {
+        Action::Default => (),
+        Action::Assign => (),
+        Action::Fault => (),
+        Action::Alternative => gain_subject(subject, script, known),
     }
 }
 

@@ -8,7 +8,7 @@ use Rattle.std.proofs.lemmas.Slice.Eq.{bytes_eq-Decides}
 use Rattle.sh_tree.specs.standard.program.Syntax as p
 use Rattle.sh_tree.specs.standard.program.Syntax.{Text}
 use Rattle.sh_tree.specs.standard.program.Words.{static_of}
-use Rattle.sh_table.specs.Calls.{Row, row_of, texts_with}
+use Rattle.sh_table.specs.Calls.{Row, row_of, texts_with, table_of}
 use Rattle.sh_table.specs.Numbering.{is_numbered}
 use Rattle.sh_table.specs.Profile.{Static}
 use Rattle.sh_table.specs.Sites.{site_of, form_of, statics, sites_of}
@@ -16,7 +16,9 @@ use Rattle.sh_table.specs.Surroundings.{Surroundings, Located, outside, items_lo
 use Rattle.sh_table.proofs.NumberLemmas.{Tells, numbered_tells}
 use Rattle.sh_domain.specs.Entries.{Entered, script_entered}
 use Rattle.sh_domain.specs.Table.{operands}
-use Rattle.sh_demands.proofs.LocatedLemmas.{script_listed}
+use Rattle.sh_gains.proofs.LocatedLemmas.{script_listed}
+use Rattle.sh_tree.specs.declared.tree.Script.{Script}
+use Rattle.sh_tree.specs.standard.program.Trees.{script_of}
 
 abbrev same_static : Static → Static → Bool
 same_static None None = true
@@ -67,6 +69,12 @@ all_have rows (l ∷ ls) h = and_from (has_texts rows l.command) _ (one_has rows
 pub entered_have : (t : p.Items) → is_numbered t ≡ true → list_all (λ (e : Entered). has_texts (map row_of (sites_of t)) e.command) (script_entered t) ≡ true
 entered_have t h =
     sym (script_listed (has_texts (map row_of (sites_of t))) t) ∙ all_have (map row_of (sites_of t)) (items_located outside t) (numbered_tells t h)
+
+-- of a script
+pub table_texts : (b : List ℕ) (t : Script) → is_numbered (script_of b t) ≡ true
+    → list_all (λ (e : Entered). has_texts (table_of b t).rows e.command) (script_entered (script_of b t)) ≡ true
+unfolding table_of
+table_texts b t h = entered_have (script_of b t) h
 
 -- a simple command's texts are those of its words
 pub own_texts : (rows : List Row) (n at : ℕ) (es : p.Elements) (rs : p.Redirects) → has_texts rows (p.command n at (p.Simple es) rs) ≡ true

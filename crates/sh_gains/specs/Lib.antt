@@ -1,0 +1,4 @@
+pub mod Knowing
+pub mod Walks
+pub mod Statics
+pub mod Claims
