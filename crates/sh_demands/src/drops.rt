@@ -11,6 +11,7 @@ ghost use Rattle.sh_domain.specs.Knowledge.{AreNumbered};
 ghost use Rattle.sh_demands.specs.Drops as spec;
 ghost use Rattle.sh_demands.specs.DropWalks as walks;
 ghost use Rattle.sh_gains.specs.Knowing.{knowing};
+ghost use Rattle.sh_gains.specs.Statics.{listed};
 ghost use Rattle.sh_demands.specs.Reported.{Adds, AddsFirst, AddsSince};
 
 use crate::reports::Reports;
@@ -190,7 +191,7 @@ pub fn tell_unset(
     start: usize,
     reports: &mut Reports,
 )
-    ensures { AddsSince start reports.old reports.new (λ k ps. spec.all_told k at ps (spec.unset_drops calls.now.functions.names (spec.listed (map (text_in script.now) operands.now)))) }
+    ensures { AddsSince start reports.old reports.new (λ k ps. spec.all_told k at ps (spec.unset_drops calls.now.functions.names (listed (map (text_in script.now) operands.now)))) }
 {
     let (letters, names) = unset_operands(operands, script);
     tell_removed(

@@ -31,7 +31,7 @@ fn gain_each_element(elements: &[Element], script: &[u8], known: &mut Known<'_>)
 
 /// What is known after the command name and the operands of a simple command. Its values and its
 /// redirections are judged there.
-#[tactic(auto, using(crate::proofs::OwnLemmas::operands_gained))]
+#[tactic(auto, using(crate::proofs::GainLemmas::operands_gained))]
 pub fn gain_operands(elements: &[Element], script: &[u8], known: &mut Known<'_>)
     ensures { knowing known.new ≡ gained (words_gains (operands_in (elements_from script.now elements.now))) (knowing known.old) }
 {
