@@ -1,3 +1,4 @@
+//! What a certificate keeps: rows, each once, and facts by their numbers.
 ghost use Rattle.std.specs.Prelude.{◌≡◌, IfOk};
 
 use sh_domain::{Certificate, Drops, Entry, Facts, FunctionEntry, RowId, Rows};
@@ -6,6 +7,8 @@ use std::alloc::{AllocError, Global};
 use std::test::Fail;
 
 const COUNT: u32 = 70;
+
+const NOTHING: RowId = RowId { index: 0 };
 
 /// The numbers of a row, and the place that it has among the rows before it.
 type Kept = (&'static [u32], usize);
@@ -20,7 +23,7 @@ const ROWS: &[Kept] = &[
 ];
 
 /// A row of these numbers, if they are below the count.
-pub fn row_of(alloc: Global, count: u32, numbers: &[u32]) -> Result<BitRow, AllocError>
+fn row_of(alloc: Global, count: u32, numbers: &[u32]) -> Result<BitRow, AllocError>
     ensures { IfOk result (λ r. r.count ≡ count) }
 {
     let mut row = BitRow::empty(alloc, count)?;
@@ -58,15 +61,9 @@ fn kept_once(rt: HostRuntime) -> Result<(), Fail> {
 /// The facts of 65,535 commands fit 6 MiB: three of a command in 96 bytes. The rows come beside.
 const _: () = prove!(65_535 * size_of::<Entry>() <= 6 << 20);
 
-#[test]
-fn read_by_numbers(rt: HostRuntime) -> Result<(), Fail> {
-    let mut certificate = Certificate::new(rt.alloc(), COUNT);
-    let empty = RowId { index: 0 };
-    let known = Facts::Known {
-        vars: empty,
-        functions: empty,
-        args: 2,
-    };
+/// A certificate of one command, which is a loop, and of one function.
+fn one_of_each(alloc: Global, known: Facts) -> Result<Certificate, AllocError> {
+    let mut certificate = Certificate::new(alloc, COUNT);
     certificate.entries.push(Entry {
         before: known,
         zero: known,
@@ -76,12 +73,23 @@ fn read_by_numbers(rt: HostRuntime) -> Result<(), Fail> {
     certificate.functions.push(FunctionEntry {
         before: known,
         drops: Drops {
-            vars: empty,
-            functions: empty,
+            vars: NOTHING,
+            functions: NOTHING,
         },
         zero: Facts::NotReached,
         nonzero: known,
     })?;
+    Ok(certificate)
+}
+
+#[test]
+fn read_by_numbers(rt: HostRuntime) -> Result<(), Fail> {
+    let known = Facts::Known {
+        vars: NOTHING,
+        functions: NOTHING,
+        args: 2,
+    };
+    let certificate = one_of_each(rt.alloc(), known)?;
     assert!(rt; certificate.entry(1).is_some() && certificate.entry(2).is_none());
     assert!(rt; certificate.head(1) == Some(&known) && certificate.head(2).is_none());
     assert!(rt; certificate.function(1).is_some() && certificate.function(2).is_none());

@@ -1,7 +1,8 @@
+//! The numbers of names, and texts that are none.
 use sh_domain::{Names, Policy, PolicyFault};
 use sh_grammar::parse;
 use sh_tree::Refusal;
-use std::alloc::{AllocError, Global};
+use std::alloc::Global;
 use std::process::Abort;
 use std::test::Fail;
 
@@ -15,12 +16,6 @@ struct Row {
 
 const FIRST: &[&[u8]] = &[b"IFS", b"OPTIND", b"PPID", b"OPTARG", b"!"];
 
-/// The names of a script under a policy.
-pub fn names_of(alloc: Global, script: &[u8], policy: &Policy) -> Result<Names, Refusal> {
-    let tree = parse(alloc, script)?;
-    Names::new(alloc, &tree, script, policy)
-}
-
 /// Whether the name has this number, and the number this name.
 fn is_numbered(names: &Names, number: u32, name: &[u8]) -> bool {
     if number >= names.count() {
@@ -31,20 +26,33 @@ fn is_numbered(names: &Names, number: u32, name: &[u8]) -> bool {
     found && back
 }
 
-/// Holds that the names are those that every script has, and these after them.
-pub fn check_names(rt: &impl Abort, names: &Names, wanted: &[&[u8]]) {
-    assert_eq!(rt; names.count() as usize, FIRST.len() + wanted.len());
-    let all = FIRST.iter().chain(&*wanted);
+/// Whether the names are those that every script has, and these after them.
+fn are_names(names: &Names, wanted: &[&[u8]]) -> bool {
+    let all = FIRST.iter().chain(wanted);
     for (number, name) in (0..names.count()).zip(all) {
-        assert!(rt; is_numbered(names, number, name));
+        if !is_numbered(names, number, name) {
+            return false;
+        }
     }
+    names.count() as usize == FIRST.len() + wanted.len()
 }
 
-fn check(rt: &impl Abort, alloc: Global, rows: &[Row]) -> Result<(), Fail> {
+fn has_names(alloc: Global, row: &Row, policy: &Policy) -> Result<bool, Refusal> {
+    let tree = parse(alloc, row.script)?;
+    let names = Names::new(alloc, &tree, row.script, policy)?;
+    Ok(are_names(&names, row.names))
+}
+
+fn is_held(alloc: Global, row: &Row) -> Result<bool, Fail> {
+    let policy = Policy::new(alloc, row.declared, 0)?;
+    let held = has_names(alloc, row, &policy)?;
+    Ok(held)
+}
+
+fn check(rt: &(impl Abort + AllocGlobal), rows: &[Row]) -> Result<(), Fail> {
     for row in rows {
-        let policy = Policy::new(alloc, row.declared, 0)?;
-        let names = names_of(alloc, row.script, &policy)?;
-        check_names(rt, &names, row.names);
+        let held = is_held(rt.alloc(), row)?;
+        assert!(rt; held, "{script:?}", script = row.script);
     }
     Ok(())
 }
@@ -64,6 +72,11 @@ const BY_FIRST_SIGHT: &[Row] = &[
         script: b"echo \"$b\" ${a-\"$c\"}; a=1; d=$e $1 $! $# ~",
         declared: &[],
         names: &[b"b", b"a", b"c", b"d", b"e"],
+    },
+    Row {
+        script: b"<<E cat $b\n$a\nE\n",
+        declared: &[],
+        names: &[b"b", b"a"],
     },
     Row {
         script: b"echo $((u = v + ${w%$x} + 1))",
@@ -107,12 +120,12 @@ const BY_UTILITY: &[Row] = &[
 
 #[test]
 fn by_first_sight(rt: HostRuntime) -> Result<(), Fail> {
-    check(&rt, rt.alloc(), BY_FIRST_SIGHT)
+    check(&rt, BY_FIRST_SIGHT)
 }
 
 #[test]
 fn by_utility(rt: HostRuntime) -> Result<(), Fail> {
-    check(&rt, rt.alloc(), BY_UTILITY)
+    check(&rt, BY_UTILITY)
 }
 
 /// Texts, and the first that is no name.
@@ -139,46 +152,5 @@ fn declared_names(rt: HostRuntime) -> Result<(), Fail> {
     for (texts, wanted) in DECLARED {
         assert_eq!(&rt; first_bad(rt.alloc(), texts)?, *wanted);
     }
-    Ok(())
-}
-
-/// The policy that declares `n0`, `n1` and so on.
-pub fn declaring(alloc: Global, count: u32) -> Result<Policy, PolicyFault> {
-    let mut texts = Vec::new(alloc);
-    for number in 0..count {
-        texts.push(format!(in alloc; "n{number}")?)?;
-    }
-    let mut declared = Vec::new(alloc);
-    for text in &texts {
-        declared.push(text.as_bytes())?;
-    }
-    Policy::new(alloc, &declared, 0)
-}
-
-/// How many names are declared, and the number of the next one, which the script assigns.
-type Limit = (u32, Result<Option<u32>, Refusal>);
-
-fn last_number(alloc: Global, policy: &Policy) -> Result<Option<u32>, Refusal> {
-    let names = names_of(alloc, b"x=1", policy)?;
-    Ok(names.number(b"x"))
-}
-
-fn check_limits(rt: &impl Abort, alloc: Global, rows: &[Limit]) -> Result<(), PolicyFault> {
-    for (count, wanted) in rows {
-        let policy = declaring(alloc, *count)?;
-        assert_eq!(rt; last_number(alloc, &policy), *wanted, "{count}");
-    }
-    Ok(())
-}
-
-const LIMITS: &[Limit] = &[
-    (0, Ok(Some(5))),
-    (4_090, Ok(Some(4_095))),
-    (4_091, Err(Refusal::TooMany)),
-];
-
-#[test]
-fn to_the_limit(rt: HostRuntime) -> Result<(), Fail> {
-    check_limits(&rt, rt.alloc(), LIMITS)?;
     Ok(())
 }

@@ -2,16 +2,6 @@
 #![tactic(auto)]
 
 #[cfg(test)]
-mod bodies;
-#[cfg(test)]
-mod certificates;
-#[cfg(test)]
-mod compacts;
-#[cfg(test)]
-mod limit;
-#[cfg(test)]
 mod names;
 #[cfg(test)]
 mod rows;
-#[cfg(test)]
-mod texts;
