@@ -39,46 +39,46 @@ use Rattle.sh_tally.specs.Counts.{HasAtMost}
 use Rattle.sh_tally.specs.Views.{end_place, function_index, index_of, part_place}
 use Rattle.sh_tally.specs.Walks as tally
 use Rattle.sh_tally.specs.Walks.{AreOver, HasCount, HasTexts}
-use Rattle.sh_find.specs.declared.place.Part.{Part}
-use Rattle.sh_find.specs.declared.place.Part.TheVariants as part
-use Rattle.sh_find.specs.declared.place.Place.{Place}
-use Rattle.sh_find.specs.declared.subject.Subject.{Subject}
+use Rattle.sh_drafts.specs.declared.place.Part.{Part}
+use Rattle.sh_drafts.specs.declared.place.Part.TheVariants as part
+use Rattle.sh_drafts.specs.declared.place.Place.{Place}
+use Rattle.sh_drafts.specs.declared.subject.Subject.{Subject}
 use Rattle.sh_find.specs.Counts.{AreClaimed, AreOverAll, args_at, args_of, count_place, index_by, part_by, ranked_place}
-use Rattle.sh_find.specs.Facts as number
-use Rattle.sh_find.specs.Kept.{IsNamed, fact_of}
-use Rattle.sh_find.specs.Numbers.{by_name, named}
-use Rattle.sh_find.specs.Places.{at, claim_there, kept_at, place_of}
-use Rattle.sh_find.specs.Ranks.{IsNumbered, most}
-use Rattle.sh_find.specs.Stated.{asked_bounds}
-use Rattle.sh_find.specs.Starts.{start_of}
-use Rattle.sh_find.specs.Sweeps.{IsReady, Keeps}
-use Rattle.sh_find.specs.Turns.{sheet_by}
-use Rattle.sh_find.specs.Working.{claims}
-use Rattle.sh_find.proofs.AskingLemmas.{commands_numbered}
-use Rattle.sh_find.proofs.SheetLemmas.{claimed, placed}
-use Rattle.sh_find.proofs.StatedLemmas.{all_asked}
-use Rattle.sh_find.proofs.SweepLemmas.{names_numbered}
+use Rattle.sh_drafts.specs.Facts as number
+use Rattle.sh_drafts.specs.Kept.{IsNamed, fact_of}
+use Rattle.sh_drafts.specs.Numbers.{by_name, named}
+use Rattle.sh_drafts.specs.Places.{at, claim_there, kept_at, place_of}
+use Rattle.sh_drafts.specs.Ranks.{IsNumbered, most}
+use Rattle.sh_drafts.specs.Stated.{asked_bounds}
+use Rattle.sh_drafts.specs.Starts.{start_of}
+use Rattle.sh_drafts.specs.Ready.{IsReady, Keeps}
+use Rattle.sh_drafts.specs.Turns.{sheet_by}
+use Rattle.sh_drafts.specs.Working.{claims}
+use Rattle.sh_sweeps.proofs.AskingLemmas.{commands_numbered}
+use Rattle.sh_drafts.proofs.SheetLemmas.{claimed, placed}
+use Rattle.sh_sweeps.proofs.StatedLemmas.{all_asked}
+use Rattle.sh_drafts.proofs.ReadyLemmas.{names_numbered}
 
 -- The places of counts
 
 ranked : (n r : ℕ) → r < 7 → Some (count_place (n * 7 + r)) ≡ Some (ranked_place n r)
 ranked n r low = ap Some (ap₂ ranked_place (div-mul-add n 7 r low) (mod-mul-add n 7 r low))
 
-ranked_function : (commands : ℕ) (e : End) (own : Part) (r : ℕ) → r < 7 → ((k : ℕ) → function_index commands e k ≡ k * 7 + r) → ((k : ℕ) → ranked_place k r ≡ at own k) → (o : Option ℕ)
-    → option_map (at own) o ≡ option_map count_place (option_map (function_index commands e) o)
-ranked_function commands e own r low index place None = refl
-ranked_function commands e own r low index place (Some k) = ap Some (sym (place k)) ∙ sym (ranked k r low) ∙ ap (λ i. Some (count_place i)) (sym (index k))
+ranked_function : (e : End) (own : Part) (r : ℕ) → r < 7 → ((k : ℕ) → function_index e k ≡ k * 7 + r) → ((k : ℕ) → ranked_place k r ≡ at own k) → (o : Option ℕ)
+    → option_map (at own) o ≡ option_map count_place (option_map (function_index e) o)
+ranked_function e own r low index place None = refl
+ranked_function e own r low index place (Some k) = ap Some (sym (place k)) ∙ sym (ranked k r low) ∙ ap (λ i. Some (count_place i)) (sym (index k))
 
 -- a slot has the place of its count
-slot_place : (commands : ℕ) (functions : List Text) (slot : Slot) → place_of functions slot ≡ option_map count_place (index_of commands functions slot)
+slot_place : (functions : List Text) (slot : Slot) → place_of functions slot ≡ option_map count_place (index_of functions slot)
 unfolding place_of index_of part_place end_place part_by index_by
-slot_place commands functions (views.Before n) = sym (ranked n 0 (omega arith))
-slot_place commands functions (views.AfterZero n) = sym (ranked n 1 (omega arith))
-slot_place commands functions (views.AfterNonzero n) = sym (ranked n 2 (omega arith))
-slot_place commands functions (views.Head n) = sym (ranked n 3 (omega arith))
-slot_place commands functions (views.Entry f) = ranked_function commands end.Entered part.Entered 4 (omega arith) (λ k. refl) (λ k. refl) (number_of functions f)
-slot_place commands functions (views.ReturnsZero f) = ranked_function commands end.Zero part.ReturnZero 5 (omega arith) (λ k. refl) (λ k. refl) (number_of functions f)
-slot_place commands functions (views.ReturnsNonzero f) = ranked_function commands end.Nonzero part.ReturnNonzero 6 (omega arith) (λ k. refl) (λ k. refl) (number_of functions f)
+slot_place functions (views.Before n) = sym (ranked n 0 (omega arith))
+slot_place functions (views.AfterZero n) = sym (ranked n 1 (omega arith))
+slot_place functions (views.AfterNonzero n) = sym (ranked n 2 (omega arith))
+slot_place functions (views.Head n) = sym (ranked n 3 (omega arith))
+slot_place functions (views.Entry f) = ranked_function end.Entered part.Entered 4 (omega arith) (λ k. refl) (λ k. refl) (number_of functions f)
+slot_place functions (views.ReturnsZero f) = ranked_function end.Zero part.ReturnZero 5 (omega arith) (λ k. refl) (λ k. refl) (number_of functions f)
+slot_place functions (views.ReturnsNonzero f) = ranked_function end.Nonzero part.ReturnNonzero 6 (omega arith) (λ k. refl) (λ k. refl) (number_of functions f)
 
 -- one more count is claimed
 more : (P : ℕ → ℕ → Type 0) (cs : List (Option ℕ)) (o : Option ℕ) → ((i a : ℕ) → get_or cs i None ≡ Some a → P i a) → IfSome o (P (length cs)) → (i a : ℕ) → get_or (cs ++ o ∷ []) i None ≡ Some a → P i a
@@ -213,15 +213,15 @@ module _ (s : Subject) (c : kept.Certificate) (n : ℕ) (ready : IsReady s c n) 
       within_args s.names.now c q (facts (claim_there other (Some q))) a (subst (IsWithin (facts (claim_there other (Some q)))) own both) args
 
   module _ (y : Tally) (script : y.script.now ≡ s.script.now) (table : y.table.now ≡ table_of s.script.now s.tree.now) (counts : y.places.counts.now ≡ cs) where
-    of_count : (slot : Slot) (i : ℕ) → index_of y.places.commands y.table.now.functions.names slot ≡ Some i → place_of functions slot ≡ Some (count_place i)
+    of_count : (slot : Slot) (i : ℕ) → index_of y.table.now.functions.names slot ≡ Some i → place_of functions slot ≡ Some (count_place i)
     of_count slot i e =
-        slot_place y.places.commands functions slot
-        ∙ ap (λ (x : Table). option_map count_place (index_of y.places.commands x.functions.names slot)) (sym table) ∙ ap (option_map count_place) e
+        slot_place functions slot
+        ∙ ap (λ (x : Table). option_map count_place (index_of x.functions.names slot)) (sym table) ∙ ap (option_map count_place) e
 
     claimed_in : (i a : ℕ) → get_or y.places.counts.now i None ≡ Some a → get_or cs i None ≡ Some a
     claimed_in i a e = ap (λ (l : List (Option ℕ)). get_or l i None) (sym counts) ∙ e
 
-    has_count : (slot : Slot) (i a : ℕ) → index_of y.places.commands y.table.now.functions.names slot ≡ Some i → get_or y.places.counts.now i None ≡ Some a
+    has_count : (slot : Slot) (i a : ℕ) → index_of y.table.now.functions.names slot ≡ Some i → get_or y.places.counts.now i None ≡ Some a
         → HasCount (u i) (facts ((claims_in s.script.now s.tree.now other).claim slot))
     has_count slot i a at is =
         let place = of_count slot i at in

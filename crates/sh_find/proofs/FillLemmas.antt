@@ -33,28 +33,28 @@ use Rattle.sh_domain.proofs.KnowledgeLemmas.{row_names}
 use Rattle.sh_domain.proofs.RoundTripLemmas.{written_reads_back}
 use Rattle.sh_domain.proofs.OrderLemmas.{among_all, within_itself, within_nowhere}
 use Rattle.sh_domain.specs.declared.compact.Compact.{Compact}
-use Rattle.sh_find.specs.declared.place.Part.{Part}
-use Rattle.sh_find.specs.declared.place.Part.TheVariants.{Before, Zero, Nonzero, Head, Entered, ReturnZero, ReturnNonzero}
-use Rattle.sh_find.specs.declared.place.Place.{Place}
-use Rattle.sh_find.specs.Begun.{HasStated, IsBegun, IsStateable, drops_stated, stated_at, states}
+use Rattle.sh_drafts.specs.declared.place.Part.{Part}
+use Rattle.sh_drafts.specs.declared.place.Part.TheVariants.{Before, Zero, Nonzero, Head, Entered, ReturnZero, ReturnNonzero}
+use Rattle.sh_drafts.specs.declared.place.Place.{Place}
+use Rattle.sh_drafts.specs.Begun.{HasStated, IsBegun, IsStateable, drops_stated, stated_at, states}
 use Rattle.sh_domain.specs.Compacts.{compact_claims, stated_by, stated_commands, stated_sheet, turns_of}
-use Rattle.sh_find.specs.Facts as number
-use Rattle.sh_find.specs.Gathered.{is_at}
-use Rattle.sh_find.specs.Kept.{fact_of}
-use Rattle.sh_find.specs.Numbers.{by_name, claim_by, named, names_by}
-use Rattle.sh_find.specs.Places.{at, claim_there, drops_there, function_part, is_of_command, is_of_function, is_stated_part, kept_at, part_claim, place_of}
-use Rattle.sh_find.specs.declared.subject.Subject.{Subject}
-use Rattle.sh_find.specs.Starts.{start_of}
-use Rattle.sh_find.specs.Stated.{Claims, ClaimsStated, asked_bounds, is_asked, is_free}
-use Rattle.sh_find.specs.Sweeps.{IsOver, IsSettled, Keeps}
-use Rattle.sh_find.specs.Turns.{sheet_by}
-use Rattle.sh_find.specs.Working.{IsWorking, Sets, claims, dropped, names_of, sets_of}
-use Rattle.sh_find.specs.Writable.{IsWritten}
-use Rattle.sh_find.proofs.GreatestLemmas.{numbered}
-use Rattle.sh_find.proofs.NextLemmas.{same_itself}
-use Rattle.sh_find.proofs.SheetLemmas.{claim_is, claimed, claimed_by, drops_by, drops_placed, dropped_by, entered_by, fits_there, has_text, known_there, nonzero_by, placed, zero_by}
-use Rattle.sh_find.proofs.StartLemmas.{stated_start}
-use Rattle.sh_find.proofs.TurnLemmas.{stated_place}
+use Rattle.sh_drafts.specs.Facts as number
+use Rattle.sh_drafts.specs.Gathered.{is_at}
+use Rattle.sh_drafts.specs.Kept.{fact_of}
+use Rattle.sh_drafts.specs.Numbers.{by_name, claim_by, named, names_by}
+use Rattle.sh_drafts.specs.Places.{at, claim_there, drops_there, function_part, is_of_command, is_of_function, is_stated_part, kept_at, part_claim, place_of}
+use Rattle.sh_drafts.specs.declared.subject.Subject.{Subject}
+use Rattle.sh_drafts.specs.Starts.{start_of}
+use Rattle.sh_drafts.specs.Stated.{Claims, ClaimsStated, asked_bounds, is_asked, is_free}
+use Rattle.sh_drafts.specs.Ready.{IsOver, IsSettled, Keeps}
+use Rattle.sh_drafts.specs.Turns.{sheet_by}
+use Rattle.sh_drafts.specs.Working.{IsWorking, Sets, claims, dropped, names_of, sets_of}
+use Rattle.sh_drafts.specs.Writable.{IsWritten}
+use Rattle.sh_drafts.proofs.ReadyLemmas.{numbered}
+use Rattle.sh_sweeps.proofs.NextLemmas.{same_itself}
+use Rattle.sh_drafts.proofs.SheetLemmas.{claim_is, claimed, claimed_by, drops_by, drops_placed, dropped_by, entered_by, fits_there, has_text, known_there, nonzero_by, placed, zero_by}
+use Rattle.sh_drafts.proofs.StartLemmas.{stated_start}
+use Rattle.sh_sweeps.proofs.TurnLemmas.{stated_place}
 
 -- The sheet of what is stated
 

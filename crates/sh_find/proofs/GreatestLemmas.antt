@@ -1,42 +1,26 @@
 -- What is found is the greatest certificate.
-use Rattle.std.proofs.Common.{◌≡◌, ℕ, ◌+◌, ◌<◌, ◌≤◌, cond, Bool, true, false, Option, List, [], map, length, refl, sym, subst, arith}
-use Rattle.std.specs.Borrow.{Bor}
-use Rattle.std.specs.List.Sorted.{IsPermutation}
-use Rattle.sh_tree.specs.declared.tree.Command.{Command}
+use Rattle.std.proofs.Common.{◌≡◌, ℕ, ◌+◌, ◌<◌, ◌≤◌, cond, Bool, true, false, Option, List, [], length, refl, sym, subst, arith, flat_map, true≢false}
 use Rattle.sh_tree.specs.declared.tree.Script.{Script}
 use Rattle.sh_tree.specs.standard.program.Syntax.{Text}
 use Rattle.sh_tree.specs.standard.program.Trees.{script_of}
-use Rattle.sh_tree.specs.Commands.{commands_of}
 use Rattle.sh_domain.specs.declared.certificate.Certificate as kept
 use Rattle.sh_domain.specs.Facts.{Declared, start_facts}
-use Rattle.sh_domain.specs.Faults.{faults}
-use Rattle.sh_domain.specs.Knowledge.{AreNumbered}
+use Rattle.sh_domain.specs.Faults.{faults, broken}
 use Rattle.sh_domain.specs.Names.{are_distinct}
 use Rattle.sh_domain.specs.Order.{IsBelow}
 use Rattle.sh_domain.specs.Reading.{AreLoops, claim_fits}
 use Rattle.sh_domain.specs.Sheets.{Sheet}
-use Rattle.sh_domain.proofs.KnownNameLemmas.{names_suffice}
 use Rattle.sh_domain.proofs.RoundTripLemmas.{written_reads_back}
-use Rattle.sh_domain.specs.Admitted.{IsAdmitted, claims_in, functions_in}
-use Rattle.sh_domain.specs.Admitted.{IsGreatest}
-use Rattle.sh_find.specs.declared.place.Place.{Place}
-use Rattle.sh_find.specs.Places.{claim_there}
-use Rattle.sh_find.specs.Turns.{sheet_by}
-use Rattle.sh_find.specs.Working.{IsWorking, height}
-use Rattle.sh_find.proofs.LoopsLemmas.{all_counted}
-use Rattle.sh_find.proofs.SheetLemmas.{fits_there, has_text, known_there}
-
--- the names of a script that is admitted are numbered
-pub numbered : (b : List ℕ) (d : Declared) (t : Script) (names : List Text) → IsAdmitted b d t names → AreNumbered names
-numbered b d t names a = names_suffice.numbered b t d names a.numbered.0 a.numbered.1
-
--- it has no more commands than a text of a certificate may have
-pub few_commands : (b : List ℕ) (d : Declared) (t : Script) (names : List Text) → IsAdmitted b d t names → (cs : List (Bor Command)) → IsPermutation (commands_of t) (map (λ (c : Bor Command). c.now) cs)
-    → length cs ≤ 65535
-few_commands b d t names a cs same =
-    let all = all_counted b t a.reading.1.0 a.reading.1.1 cs same in
-    let few = a.reading.1.2 in
-    omega (arith, all, few)
+use Rattle.sh_domain.specs.Admitted.{IsAdmitted, claims_in, functions_in, IsGreatest}
+use Rattle.sh_drafts.specs.declared.place.Place.{Place}
+use Rattle.sh_drafts.specs.Places.{claim_there}
+use Rattle.sh_drafts.specs.Turns.{sheet_by, IsTurn, StatedStays}
+use Rattle.sh_drafts.specs.Working.{IsWorking, height}
+use Rattle.sh_drafts.proofs.SheetLemmas.{fits_there, has_text, known_there}
+use Rattle.sh_drafts.specs.declared.subject.Subject.{Subject}
+use Rattle.sh_drafts.specs.Ready.{asked_of, IsOver, IsReady, IsSettled, IsSwept}
+use Rattle.sh_drafts.specs.Starts.{start_of}
+use Rattle.sh_drafts.proofs.ReadyLemmas.{numbered, stays_more, stays_none}
 
 -- Turns one after the other
 
@@ -55,6 +39,41 @@ module _ (names : List Text) (loops : List Bool) (m : ℕ) where
       go : (x : Bool) → done ≡ x → left names new done < left names mid false
       go true is = rw is (omega arith)
       go false is = rw is (let l = less is in let a = heights new v in let z = heights mid w in omega (arith, l, a, z))
+
+module _ (s : Subject) where
+  -- the certificate so far, which keeps all rules where that is done
+  pub record IsTurned (old new : kept.Certificate) (probed : ℕ) (done : Bool) : Type 0 where
+    pub working : (loops : List Bool) (m : ℕ) → IsWorking s.names.now loops m old → IsWorking s.names.now loops m new
+    pub over : IsOver s new
+    pub probe : probed ≡ length s.names.now
+    pub stays : s.stated ≡ true → StatedStays old new
+    pub rules : done ≡ true → flat_map (broken (start_of s) (claims_in s.script.now s.tree.now (sheet_by s.names.now new))) (asked_of s) ≡ []
+
+  abbrev Turns : List Bool → ℕ → kept.Certificate → kept.Certificate → Bool → Type 0
+  Turns loops m old new done = IsTurn s.names.now loops m (start_of s) (functions_in s.script.now s.tree.now) s.stated (asked_of s) old new done
+
+  pub turned_more : (old mid swept new : kept.Certificate) (n h k l : ℕ) (was done : Bool) → IsReady s old n → IsTurned old mid h was → IsSwept s mid swept k
+      → ((loops : List Bool) (m : ℕ) → IsWorking s.names.now loops m swept → Turns loops m swept new done) → l ≡ length s.names.now → IsTurned old new l done
+  turned_more old mid swept new n h k l was done r t w turn probe =
+      let first = turn r.loops r.functions (w.working r.loops r.functions (t.working r.loops r.functions r.working)) in
+      record {
+        working = λ loops m is. (turn loops m (w.working loops m (t.working loops m is))).working;
+        over = λ other keeps. first.above other keeps.fit keeps.rules (w.over other keeps);
+        stays = λ e. stays_more s old swept new (stays_more s old mid swept (t.stays e) (w.stays e)) (first.stays e);
+        probe = probe;
+        rules = first.rules;
+      }
+
+  pub turned_none : (c : kept.Certificate) (n : ℕ) → IsReady s c n → IsTurned c c n false
+  turned_none c n r = record { working = λ loops m w. w; over = r.over; stays = λ e. stays_none s c; probe = r.probe; rules = λ e. absurd (true≢false (sym e)) }
+
+  -- a turn after a sweep lowers
+  pub swept_less : (loops : List Bool) (m : ℕ) (old mid new : kept.Certificate) (n : ℕ) (done : Bool) → IsWorking s.names.now loops m old → IsSwept s old mid n → Turns loops m mid new done
+      → done ≡ false → height (length s.names.now) (length loops) m new < height (length s.names.now) (length loops) m old
+  swept_less loops m old mid new n done working w t e = let l = t.less e in let k = w.no_more loops m working in omega (arith, l, k)
+
+  pub settled : (loops : List Bool) (m : ℕ) (old new : kept.Certificate) (n : ℕ) (done : Bool) → done ≡ true → IsTurned old new n done → IsWorking s.names.now loops m old → IsSettled s loops m old new
+  settled loops m old new n done e t w = record { working = t.working loops m w; rules = t.rules e; over = t.over; stays = t.stays }
 
 -- The greatest one
 

@@ -11,12 +11,12 @@ use Rattle.sh_domain.specs.Sheets.{Sheet}
 use Rattle.sh_domain.specs.Views.{Slot}
 use Rattle.sh_counts.specs.Equations.{worth}
 use Rattle.sh_tally.specs.Counts.{HasAtMost}
-use Rattle.sh_find.specs.declared.place.Part.{Part}
-use Rattle.sh_find.specs.declared.place.Part.TheVariants.{Before, Zero, Nonzero, Head, Entered, ReturnZero, ReturnNonzero}
-use Rattle.sh_find.specs.declared.place.Place.{Place}
-use Rattle.sh_find.specs.declared.subject.Subject.{Subject}
-use Rattle.sh_find.specs.Places.{at, claim_there, kept_at, place_of}
-use Rattle.sh_find.specs.Sweeps.{Keeps}
+use Rattle.sh_drafts.specs.declared.place.Part.{Part}
+use Rattle.sh_drafts.specs.declared.place.Part.TheVariants.{Before, Zero, Nonzero, Head, Entered, ReturnZero, ReturnNonzero}
+use Rattle.sh_drafts.specs.declared.place.Place.{Place}
+use Rattle.sh_drafts.specs.declared.subject.Subject.{Subject}
+use Rattle.sh_drafts.specs.Places.{at, claim_there, kept_at, place_of}
+use Rattle.sh_drafts.specs.Ready.{Keeps}
 
 -- the part of a command or of a function by its rank
 unfoldable pub part_by : ℕ → Part

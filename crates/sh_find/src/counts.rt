@@ -8,19 +8,14 @@ ghost use Rattle.sh_counts.specs.Equations.{worth};
 ghost use Rattle.sh_tally.specs.Counts.{HasAtMost};
 ghost use Rattle.sh_find.specs.Counts as spec;
 ghost use Rattle.sh_find.specs.Counts.{AreClaimed, AreOverAll, HasAtMostThere, count_place};
-ghost use Rattle.sh_find.specs.Kept.{IsNamed, sight_facts};
-ghost use Rattle.sh_find.specs.Numbers.{by_name};
-ghost use Rattle.sh_find.specs.Sweeps.{IsReady, IsSwept};
+ghost use Rattle.sh_drafts.specs.Kept.{IsNamed, sight_facts};
+ghost use Rattle.sh_drafts.specs.Numbers.{by_name};
+ghost use Rattle.sh_drafts.specs.Ready.{IsReady, IsSwept};
 
-use crate::draft::Draft;
-use crate::kept::facts_at;
-use crate::lower::lower;
-use crate::place::{Part, Place};
-use crate::sight::Sight;
-use crate::spot::fitting;
-use crate::subject::Subject;
-use crate::wakes::note_place;
 use sh_domain::{Certificate, Facts, Names, NumberSet};
+use sh_drafts::kept::facts_at;
+use sh_drafts::lower::lower;
+use sh_drafts::{Draft, Part, Place, Sight, Subject, fitting, note_place};
 use sh_tally::{Places, Tally};
 use std::alloc::{AllocError, Global};
 
@@ -60,7 +55,7 @@ fn index_by(part: Part, number: usize) -> usize
 }
 
 // The place of a count, if a script may have a command or a function of its number.
-#[tactic(auto, unfolding(crate::specs::Gathered::fitting))]
+#[tactic(auto, unfolding(sh_drafts::specs::Gathered::fitting))]
 fn place_of_count(count: usize) -> Option<Place>
     ensures { IfSome result (λ place. place ≡ count_place count) }
 {
@@ -214,14 +209,10 @@ fn solved(
     requires claimed { AreClaimed certificate.now claimed.now }
     ensures { IfOk result (λ counts. AreOverAll subject.now claimed.now counts.items) }
 {
-    let places = Places {
-        commands: u16::try_from(certificate.entries.len()).unwrap_or(u16::MAX),
-        counts: claimed,
-    };
     let tally = Tally {
         script: subject.script,
         table: subject.table,
-        places,
+        places: Places { counts: claimed },
     };
     tally.lowered(alloc, subject.tree)
 }

@@ -12,12 +12,10 @@ ghost use Rattle.sh_domain.specs.Spelling.{IsSheet, is_writable};
 ghost use Rattle.sh_domain.specs.Compacts.{compact_claims, stated_sheet};
 ghost use Rattle.sh_domain.specs.Filled.{FillsTo};
 
-use crate::begun::begun;
-use crate::draft::Draft;
 use crate::search::{Way, settle};
-use crate::subject::Subject;
-use crate::writable::Writable;
 use sh_domain::{Certificate, Compact, Names, Policy};
+use sh_drafts::begun::begun;
+use sh_drafts::{Draft, Subject, Writable};
 use sh_rows::{BitRow, Row};
 use sh_table::CallTable;
 use sh_tree::{Script, commands};

@@ -1,5 +1,5 @@
 //! The search for the greatest certificate.
-ghost use Rattle.std.specs.Prelude.{◌≡◌, ◌≤◌, ℕ, List, Bool, true, false, length, map, IfOk, OnOk};
+ghost use Rattle.std.specs.Prelude.{◌≡◌, ℕ, List, Bool, true, false, length, map, IfOk, OnOk};
 ghost use Rattle.std.specs.List.{list_all};
 ghost use Rattle.std.specs.List.Sorted.{IsNonDecreasingBy, IsPermutation};
 ghost use Rattle.sh_tree.specs.Commands.{commands_of};
@@ -8,22 +8,18 @@ ghost use Rattle.sh_domain.specs.Forms.{is_variable};
 ghost use Rattle.sh_table.specs.Calls.{table_of};
 ghost use Rattle.sh_domain.specs.Admitted.{IsAdmitted, IsGreatest};
 ghost use Rattle.sh_domain.specs.Certificates.{in_byte_order, sheet_of};
-ghost use Rattle.sh_find.specs.Next.{IsOfScript};
-ghost use Rattle.sh_find.specs.Sweeps.{IsReady, IsSettled, IsSwept};
-ghost use Rattle.sh_find.specs.Turns.{sheet_by};
-ghost use Rattle.sh_find.specs.Working.{IsWorking};
+ghost use Rattle.sh_sweeps.specs.Next.{IsOfScript};
+ghost use Rattle.sh_drafts.specs.Ready.{IsReady, IsSettled, IsSwept};
+ghost use Rattle.sh_drafts.specs.Turns.{sheet_by};
+ghost use Rattle.sh_drafts.specs.Working.{IsWorking};
 
-use crate::bodies::{sweep_by_rounds, sweep_round, sweep_waiting};
 use crate::counts::solve_counts;
-use crate::draft::{Draft, rest_after};
-use crate::first::unreached;
-use crate::gather::Target;
-use crate::subject::Subject;
-use crate::turn::turn;
-use crate::writable::Writable;
 use indexmap::IndexMap;
 use sh_domain::{Certificate, Compact, Facts, Names, Policy, Rows};
+use sh_drafts::{Draft, Subject, Target, Writable, rest_after, unreached};
 use sh_rows::{BitRow, Row};
+use sh_sweeps::turn::turn;
+use sh_sweeps::{sweep_by_rounds, sweep_round, sweep_waiting};
 use sh_table::CallTable;
 use sh_tree::{Script, commands};
 use sh_worklist::Waiting;

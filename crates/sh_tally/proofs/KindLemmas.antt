@@ -80,7 +80,7 @@ module _ (s : Tally) (y : Around) where
 
   none_redirected : (b : Text) (n : ℕ) (inside : Views) → Sight s (views.at (Before n)) inside → Sight s (behind_redirects n (redirects_from b [])) inside
   unfolding redirects_from redirects_gains
-  none_redirected b n inside own = raised_see s.places.commands (names s) (views.at (Before n)) (redirects_gains p.no_redirects) inside inside (raised_none inside) own
+  none_redirected b n inside own = raised_see (names s) (views.at (Before n)) (redirects_gains p.no_redirects) inside inside (raised_none inside) own
 
   module _ (m : Command) (known : Views) (place : Count) (old mid : Equations) (at : place.index ≡ command_index part.Before (out-Command m).number)
       (asks : (u : ℕ → ℕ) → AreBounds s.places u place (Raise 0) known → Tallies s.places u old mid) where
@@ -113,15 +113,15 @@ module _ (s : Tally) (y : Around) where
 
   -- A function
 
-  return_index : (f : Text) (place : Count) → option_map (function_index s.places.commands end.Zero) (number_of (names s) f) ≡ Some place.index → index_of s.places.commands (names s) (views.ReturnsZero f) ≡ Some place.index
+  return_index : (f : Text) (place : Count) → option_map (function_index end.Zero) (number_of (names s) f) ≡ Some place.index → index_of (names s) (views.ReturnsZero f) ≡ Some place.index
   unfolding index_of
   return_index f place is = is
 
-  fail_index : (f : Text) (place : Count) → option_map (function_index s.places.commands end.Nonzero) (number_of (names s) f) ≡ Some place.index → index_of s.places.commands (names s) (views.ReturnsNonzero f) ≡ Some place.index
+  fail_index : (f : Text) (place : Count) → option_map (function_index end.Nonzero) (number_of (names s) f) ≡ Some place.index → index_of (names s) (views.ReturnsNonzero f) ≡ Some place.index
   unfolding index_of
   fail_index f place is = is
 
-  zero_index : (n : ℕ) (place : Count) → place.index ≡ command_index part.Zero n → index_of s.places.commands (names s) (views.AfterZero n) ≡ Some place.index
+  zero_index : (n : ℕ) (place : Count) → place.index ≡ command_index part.Zero n → index_of (names s) (views.AfterZero n) ≡ Some place.index
   unfolding index_of
   zero_index n place is = ap Some (sym is)
 
@@ -142,7 +142,7 @@ module _ (s : Tally) (y : Around) where
       let first : List Constraint = bound (views.AfterZero n) n F13 (views.stepped (views.Define f) (views.at (Before n))) in
       let both = each_parts (Unbroken k.known k.claims) first (r.body_bounds f (trees.command_of b m)) kept in
       let body = body_kept k.known k.claims f number _ _ _ (subst (λ c. Each (Unbroken k.known k.claims) (r.body_bounds f c)) (rules.command_of-out b m) both.1) in
-      asks u (place_bounds s t u k (views.AfterZero n) place n F13 (views.stepped (views.Define f) (views.at (Before n))) inside (zero_index n place at) both.0 (see_defined s.places.commands (names s) (views.at (Before n)) f inside here))
+      asks u (place_bounds s t u k (views.AfterZero n) place n F13 (views.stepped (views.Define f) (views.at (Before n))) inside (zero_index n place at) both.0 (see_defined (names s) (views.at (Before n)) f inside here))
       (nonzero u (λ to is. place_bounds s t u k (views.ReturnsNonzero f) to number F13 (views.at (views.AfterNonzero number)) after.nonzero (fail_index f to is) body.1 behind.nonzero)
       (zero u (λ to is. place_bounds s t u k (views.ReturnsZero f) to number F13 (views.at (views.AfterZero number)) after.zero (return_index f to is) body.0 behind.zero)
       (adds F13 t u (views.at (views.Entry f)) k own (subst (λ a. IsPart t (e.command_entered F13 a (views.at (views.Entry f)) (trees.command_of b m))) (sym outside) part) tallied)))
@@ -269,7 +269,7 @@ module _ (s : Tally) (y : Around) where
             part = last_part t (patterns ++ first) rest at.part;
             kept = parts.1;
             tallies = λ tallied.
-                adds t u both k (see_left s.places.commands (names s) q at.fallen known sight) own (last_kept k.known k.claims end (clauses_from s.script.now xs) (r.leaves n F9 behind) parts.0) (at.tallies tallied);
+                adds t u both k (see_left (names s) q at.fallen known sight) own (last_kept k.known k.claims end (clauses_from s.script.now xs) (r.leaves n F9 behind) parts.0) (at.tallies tallied);
           };
     }
 
@@ -291,7 +291,7 @@ module _ (s : Tally) (y : Around) where
         let rest : List Entered = e.clauses_entered y (views.gaining (word_gains w) q) [] cs in
         let left : List Constraint = r.clauses_bounds n (views.gaining (word_gains w) q) [] cs in
         let own = each_parts (Unbroken k.known k.claims) left (if r.matches_always cs then [] else bound (views.AfterZero n) n F9 (views.gaining (word_gains w) q)) kept in
-        adds t u (views.gaining (word_gains w) q) [] k (raised_see s.places.commands (names s) q (word_gains w) inside behind word.gained sight) (last_part t first rest part) own.0
+        adds t u (views.gaining (word_gains w) q) [] k (raised_see (names s) q (word_gains w) inside behind word.gained sight) (last_part t first rest part) own.0
         (word.adds t u q k sight (first_part t first rest part) tallied)
 
 pub empty_of : {X : Type 0} (xs : List X) → length xs < 1 → xs ≡ []

@@ -171,11 +171,11 @@ module _ (s : Tally) (t : p.Items) (u : ℕ → ℕ) (k : Keeps s t u) where
     pub one : q ≡ front ++ (view ∷ back)
     pub slot : Slot
     pub source : view.source ≡ At slot
-    pub place : index_of s.places.commands (names s) slot ≡ Some h.source.index
+    pub place : index_of (names s) slot ≡ Some h.source.index
     pub passes : AllPass k.claims view.steps
     pub makes : (n : ℕ) → all_made view.steps n ≤ made c (max n h.least)
 
-  stepped_makes : (q : Seen) (x : Step) (h : handle.View) (c : Change) → Passes k.claims x → ((m n : ℕ) → m ≤ n → made_by x m ≤ made c n) → Sees s.places.commands (names s) q h → Makes (stepped x q) h c
+  stepped_makes : (q : Seen) (x : Step) (h : handle.View) (c : Change) → Passes k.claims x → ((m n : ℕ) → m ≤ n → made_by x m ≤ made c n) → Sees (names s) q h → Makes (stepped x q) h c
   stepped_makes q x h c passes more sees = record {
     view = extended x sees.view;
     front = stepped x sees.front;
@@ -223,7 +223,7 @@ module _ (s : Tally) (t : p.Items) (u : ℕ → ℕ) (k : Keeps s t u) where
     makes = makes.makes;
   }
 
-  makes_bound : (slot : Slot) (place : count.Count) (q : Seen) (h : handle.View) (c : Change) → index_of s.places.commands (names s) slot ≡ Some place.index
+  makes_bound : (slot : Slot) (place : count.Count) (q : Seen) (h : handle.View) (c : Change) → index_of (names s) slot ≡ Some place.index
       → IsWithin (facts (k.claims.claim slot)) (seen_facts k.known k.claims q) → Makes q h c → Bounds s.places u place c h
   makes_bound slot place q h c at within makes a b low there =
       let v : View = makes.view in
@@ -238,14 +238,14 @@ module _ (s : Tally) (t : p.Items) (u : ℕ → ℕ) (k : Keeps s t u) where
       let few = makes.makes (u h.source.index) in
       omega (arith, below, few)
 
-  each_makes : (slot : Slot) (place : count.Count) (q z : Seen) (c : Change) (o : Option handle.View) → index_of s.places.commands (names s) slot ≡ Some place.index
-      → IsWithin (facts (k.claims.claim slot)) (seen_facts k.known k.claims z) → ((h : handle.View) → Sees s.places.commands (names s) q h → Makes z h c)
-      → IfSome o (Sees s.places.commands (names s) q) → IfSome o (Bounds s.places u place c)
+  each_makes : (slot : Slot) (place : count.Count) (q z : Seen) (c : Change) (o : Option handle.View) → index_of (names s) slot ≡ Some place.index
+      → IsWithin (facts (k.claims.claim slot)) (seen_facts k.known k.claims z) → ((h : handle.View) → Sees (names s) q h → Makes z h c)
+      → IfSome o (Sees (names s) q) → IfSome o (Bounds s.places u place c)
   each_makes slot place q z c None at within more sees = tt
   each_makes slot place q z c (Some h) at within more sees = makes_bound slot place z h c at within (more h sees)
 
-  pub change_bounds : (slot : Slot) (place : count.Count) (n : ℕ) (rule : FlowRule) (q z : Seen) (c : Change) (known : Views) → index_of s.places.commands (names s) slot ≡ Some place.index
-      → Each Unbroken (bound slot n rule z) → ((h : handle.View) → Sees s.places.commands (names s) q h → Makes z h c) → Sight s q known → AreBounds s.places u place c known
+  pub change_bounds : (slot : Slot) (place : count.Count) (n : ℕ) (rule : FlowRule) (q z : Seen) (c : Change) (known : Views) → index_of (names s) slot ≡ Some place.index
+      → Each Unbroken (bound slot n rule z) → ((h : handle.View) → Sees (names s) q h → Makes z h c) → Sight s q known → AreBounds s.places u place c known
   change_bounds slot place n rule q z c known at all more sees =
       let within = entered_within k.known k.claims slot n rule z all in
       record { first = each_makes slot place q z c known.first at within more sees.first; second = each_makes slot place q z c known.second at within more sees.second }
@@ -299,11 +299,11 @@ module _ (s : Tally) (y : Around) (n : ℕ) (es : p.Elements) (left : Views) whe
   nonzero_kept : (t : p.Items) (u : ℕ → ℕ) (k : Keeps s t u) (rule : FlowRule) (o : views.After) → AreKept s t u k (leaves n rule o) → AreKept s t u k (bound (views.AfterNonzero n) n rule (views.if_nonzero o))
   nonzero_kept t u k rule o kept = (each_parts (Unbroken s t u k) (bound (views.AfterZero n) n rule (views.if_zero o)) (bound (views.AfterNonzero n) n rule (views.if_nonzero o)) kept).1
 
-  zero_index : (place : count.Count) → place.index ≡ command_index part.Zero n → index_of s.places.commands (names s) (views.AfterZero n) ≡ Some place.index
+  zero_index : (place : count.Count) → place.index ≡ command_index part.Zero n → index_of (names s) (views.AfterZero n) ≡ Some place.index
   unfolding index_of
   zero_index place is = ap Some (sym is)
 
-  nonzero_index : (place : count.Count) → place.index ≡ command_index part.Nonzero n → index_of s.places.commands (names s) (views.AfterNonzero n) ≡ Some place.index
+  nonzero_index : (place : count.Count) → place.index ≡ command_index part.Nonzero n → index_of (names s) (views.AfterNonzero n) ≡ Some place.index
   unfolding index_of
   nonzero_index place is = ap Some (sym is)
 
@@ -424,18 +424,18 @@ module _ (s : Tally) (y : Around) (n : ℕ) (es : p.Elements) (left : Views) whe
       subst (λ o. AreKept s t u k (leaves n F4 o)) (set_some ws ts i texts is) (utility_kept t u k (kind.Special known.Set) ws kept) in
       let low = zero_kept t u k F4 (views.Each (set_seen vs) (set_seen vs ++ settled)) all in
       let high = nonzero_kept t u k F4 (views.Each (set_seen vs) (set_seen vs ++ settled)) all in
-      let makes = λ (h : handle.View) (sees : Sees s.places.commands (names s) behind h).
+      let makes = λ (h : handle.View) (sees : Sees (names s) behind h).
       named_makes s t u k (stepped (Count (total vs)) behind) (named kept_gains.names) h c refl
       (stepped_makes s t u k behind (Count (total vs)) h c (count_passes t u k (total vs)) (count_made vs c more) sees) in
       λ tallied.
-      third u (place_bounds s t u k (views.AfterNonzero n) again n F4 (set_seen vs ++ settled) left (nonzero_index again at_again) high (see_right s.places.commands (names s) (set_seen vs) settled left (settled_sight here)))
+      third u (place_bounds s t u k (views.AfterNonzero n) again n F4 (set_seen vs ++ settled) left (nonzero_index again at_again) high (see_right (names s) (set_seen vs) settled left (settled_sight here)))
       (second u (change_bounds s t u k (views.AfterNonzero n) failure n F4 behind (set_seen vs ++ settled) c left (nonzero_index failure at_nonzero) high
       (λ h sees. left_makes s t u k (set_seen vs) settled h c (makes h sees)) here.words)
       (first u (change_bounds s t u k (views.AfterZero n) success n F4 behind (set_seen vs) c left (zero_index success at_zero) low makes here.words) tallied))
 
   -- A call
 
-  entry_index : (f : Text) (place : count.Count) → option_map (function_index s.places.commands end.Entered) (number_of (names s) f) ≡ Some place.index → index_of s.places.commands (names s) (views.Entry f) ≡ Some place.index
+  entry_index : (f : Text) (place : count.Count) → option_map (function_index end.Entered) (number_of (names s) f) ≡ Some place.index → index_of (names s) (views.Entry f) ≡ Some place.index
   unfolding index_of
   entry_index f place is = is
 

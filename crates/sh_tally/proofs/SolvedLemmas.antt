@@ -58,7 +58,7 @@ pub are_over : (s : Tally) (y : Around) (t : p.Items) (known : Views) (first las
     → first.most.items ≡ map count_at_first s.places.counts.now → first.all.items ≡ [] → ((by : FlowRule) → AddsFrom s (λ q. e.items_entered by y (views.Both q) t) known first last) → IsGreatest last counts → AreOver s t counts
 are_over s y t known first last counts outside none_first none_second most none adds greatest u k i a at =
     let sight : Sight s views.at_start known = record {
-      first = subst (λ o. IfSome o (Sees s.places.commands (names s) views.at_start)) (sym none_first) tt;
-      second = subst (λ o. IfSome o (Sees s.places.commands (names s) views.at_start)) (sym none_second) tt;
+      first = subst (λ o. IfSome o (Sees (names s) views.at_start)) (sym none_first) tt;
+      second = subst (λ o. IfSome o (Sees (names s) views.at_start)) (sym none_second) tt;
     } in
     solved s t u k last counts (adds F1 t u views.at_start k sight (subst (λ x. IsPart t (e.items_entered F1 x (views.Both views.at_start) t)) (sym outside) (whole s t u k)) (begun s t u k first most none)) greatest i a at

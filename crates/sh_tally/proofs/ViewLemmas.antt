@@ -61,10 +61,10 @@ lost_one a o (Some k) is = absurd (true≢false (ap is_some is))
 pub raised_lost : (a : ℕ) (k l : Views) → l.first ≡ None → l.second ≡ None → Raised a k l
 raised_lost a k l first second = record { first = lost_one a k.first l.first first; second = lost_one a k.second l.second second }
 
-module _ (commands : ℕ) (functions : List Text) where
+module _ (functions : List Text) where
   -- after a step that leaves at most the greater of the count and the least one
   stepped_sees : (q : Seen) (x : Step) (h k : View) → ((c : Certificate) → Passes c x) → ((m n : ℕ) → m ≤ max n h.least → made_by x m ≤ max n k.least) → k.source ≡ h.source
-      → Sees commands functions q h → Sees commands functions (stepped x q) k
+      → Sees functions q h → Sees functions (stepped x q) k
   stepped_sees q x h k pass more same s =
       record {
         view = extended x s.view;
@@ -74,7 +74,7 @@ module _ (commands : ℕ) (functions : List Text) where
         shows = record {
           slot = s.shows.slot;
           source = s.shows.source;
-          place = subst (λ p. index_of commands functions s.shows.slot ≡ Some p) (sym (ap (λ p. p.index) same)) s.shows.place;
+          place = subst (λ p. index_of functions s.shows.slot ≡ Some p) (sym (ap (λ p. p.index) same)) s.shows.place;
           passes = λ c. pass_then c s.view.steps x (s.shows.passes c) (pass c);
           made = λ n. subst (λ m. m ≤ max n k.least) (sym (made_then s.view.steps x n)) (more (all_made s.view.steps n) n (s.shows.made n));
         };
@@ -88,7 +88,7 @@ module _ (commands : ℕ) (functions : List Text) where
   unfolding made_by
   gain_more g h k few m n le = omega (arith, few, le)
 
-  raised_sees : (q : Seen) (g : Gains) (h k : View) (least : ℕ) → g.args ≤ least → k.source ≡ h.source → k.least ≡ max h.least least → Sees commands functions q h → Sees commands functions (gaining g q) k
+  raised_sees : (q : Seen) (g : Gains) (h k : View) (least : ℕ) → g.args ≤ least → k.source ≡ h.source → k.least ≡ max h.least least → Sees functions q h → Sees functions (gaining g q) k
   raised_sees q g h k least few same is s =
       stepped_sees q (Gain g) h k (gain_pass g) (λ m n le. subst (λ l. made_by (Gain g) m ≤ max n l) (sym is) (gain_more g h.least least few m n le)) same s
 
@@ -96,16 +96,16 @@ module _ (commands : ℕ) (functions : List Text) where
   unfolding made_by
   gained_more g h k few m n le = omega (arith, few, le)
 
-  raised_one : (q : Seen) (g : Gains) (o n : Option View) → RaisedView g.args o n → IfSome o (Sees commands functions q) → IfSome n (Sees commands functions (gaining g q))
+  raised_one : (q : Seen) (g : Gains) (o n : Option View) → RaisedView g.args o n → IfSome o (Sees functions q) → IfSome n (Sees functions (gaining g q))
   unfolding RaisedView
   raised_one q g o None r s = tt
   raised_one q g None (Some k) r s = absurd r
   raised_one q g (Some h) (Some k) r s = stepped_sees q (Gain g) h k (gain_pass g) (gained_more g h.least k.least r.1) r.0 s
 
-  pub raised_see : (q : Seen) (g : Gains) (k l : Views) → Raised g.args k l → See commands functions q k → See commands functions (gaining g q) l
+  pub raised_see : (q : Seen) (g : Gains) (k l : Views) → Raised g.args k l → See functions q k → See functions (gaining g q) l
   raised_see q g k l r s = record { first = raised_one q g k.first l.first r.first s.first; second = raised_one q g k.second l.second r.second s.second }
 
-  weaker_sees : (q : Seen) (h k : View) → k.source ≡ h.source → h.least ≤ k.least → Sees commands functions q h → Sees commands functions q k
+  weaker_sees : (q : Seen) (h k : View) → k.source ≡ h.source → h.least ≤ k.least → Sees functions q h → Sees functions q k
   weaker_sees q h k same more s = record {
     view = s.view;
     front = s.front;
@@ -114,20 +114,20 @@ module _ (commands : ℕ) (functions : List Text) where
     shows = record {
       slot = s.shows.slot;
       source = s.shows.source;
-      place = subst (λ p. index_of commands functions s.shows.slot ≡ Some p) (sym (ap (λ p. p.index) same)) s.shows.place;
+      place = subst (λ p. index_of functions s.shows.slot ≡ Some p) (sym (ap (λ p. p.index) same)) s.shows.place;
       passes = s.shows.passes;
       made = λ n. let few = s.shows.made n in omega (arith, few, more);
     };
   }
 
-  weaker_one : (q : Seen) (n : ℕ) (o m : Option View) → RaisedView n o m → IfSome o (Sees commands functions q) → IfSome m (Sees commands functions q)
+  weaker_one : (q : Seen) (n : ℕ) (o m : Option View) → RaisedView n o m → IfSome o (Sees functions q) → IfSome m (Sees functions q)
   unfolding RaisedView
   weaker_one q n o None r s = tt
   weaker_one q n None (Some k) r s = absurd r
   weaker_one q n (Some h) (Some k) r s = let x = r.1 in weaker_sees q h k r.0 (omega (arith, x)) s
 
   -- what is left sees what was seen
-  pub weaker_see : (q : Seen) (n : ℕ) (k l : Views) → Raised n k l → See commands functions q k → See commands functions q l
+  pub weaker_see : (q : Seen) (n : ℕ) (k l : Views) → Raised n k l → See functions q k → See functions q l
   weaker_see q n k l r s = record { first = weaker_one q n k.first l.first r.first s.first; second = weaker_one q n k.second l.second r.second s.second }
 
   define_pass : (f : Text) (c : Certificate) → Passes c (Define f)
@@ -138,7 +138,7 @@ module _ (commands : ℕ) (functions : List Text) where
   unfolding made_by
   define_more f h m n le = le
 
-  defined_sees : (q : Seen) (f : Text) (h : View) → Sees commands functions q h → Sees commands functions (stepped (Define f) q) h
+  defined_sees : (q : Seen) (f : Text) (h : View) → Sees functions q h → Sees functions (stepped (Define f) q) h
   defined_sees q f h s = stepped_sees q (Define f) h h (define_pass f) (define_more f h.least) refl s
 
   lose_pass : (d : _) (c : Certificate) → Passes c (Lose d)
@@ -149,10 +149,10 @@ module _ (commands : ℕ) (functions : List Text) where
   unfolding made_by
   lose_more d h m n le = le
 
-  pub started_sees : (q : Seen) (h : View) → Sees commands functions q h → Sees commands functions (views.without_job q) h
+  pub started_sees : (q : Seen) (h : View) → Sees functions q h → Sees functions (views.without_job q) h
   started_sees q h s = stepped_sees q (Lose _) h h (lose_pass _) (lose_more _ h.least) refl s
 
-  pub at_sees : (slot : Slot) (h : View) → h.least ≡ 0 → index_of commands functions slot ≡ Some h.source.index → Sees commands functions (views.at slot) h
+  pub at_sees : (slot : Slot) (h : View) → h.least ≡ 0 → index_of functions slot ≡ Some h.source.index → Sees functions (views.at slot) h
   unfolding all_made AllPass
   at_sees slot h none place = record {
     view = record { source = At slot; steps = [] };
@@ -162,7 +162,7 @@ module _ (commands : ℕ) (functions : List Text) where
     shows = record { slot = slot; source = refl; place = place; passes = λ c. tt; made = λ n. omega (arith, none) };
   }
 
-  pub sees_left : (q r : Seen) (h : View) → Sees commands functions q h → Sees commands functions (q ++ r) h
+  pub sees_left : (q r : Seen) (h : View) → Sees functions q h → Sees functions (q ++ r) h
   sees_left q r h s = record {
     view = s.view;
     front = s.front;
@@ -171,7 +171,7 @@ module _ (commands : ℕ) (functions : List Text) where
     shows = s.shows;
   }
 
-  pub sees_right : (q r : Seen) (h : View) → Sees commands functions r h → Sees commands functions (q ++ r) h
+  pub sees_right : (q r : Seen) (h : View) → Sees functions r h → Sees functions (q ++ r) h
   sees_right q r h s = record {
     view = s.view;
     front = q ++ s.front;
@@ -184,35 +184,35 @@ module _ (commands : ℕ) (functions : List Text) where
   each_some None P Q f p = tt
   each_some (Some h) P Q f p = f h p
 
-  pub see_left : (q r : Seen) (k : Views) → See commands functions q k → See commands functions (q ++ r) k
+  pub see_left : (q r : Seen) (k : Views) → See functions q k → See functions (q ++ r) k
   see_left q r k s = record { first = each_some k.first _ _ (sees_left q r) s.first; second = each_some k.second _ _ (sees_left q r) s.second }
 
-  pub see_right : (q r : Seen) (k : Views) → See commands functions r k → See commands functions (q ++ r) k
+  pub see_right : (q r : Seen) (k : Views) → See functions r k → See functions (q ++ r) k
   see_right q r k s = record { first = each_some k.first _ _ (sees_right q r) s.first; second = each_some k.second _ _ (sees_right q r) s.second }
 
-  pub see_defined : (q : Seen) (f : Text) (k : Views) → See commands functions q k → See commands functions (stepped (Define f) q) k
+  pub see_defined : (q : Seen) (f : Text) (k : Views) → See functions q k → See functions (stepped (Define f) q) k
   see_defined q f k s = record { first = each_some k.first _ _ (defined_sees q f) s.first; second = each_some k.second _ _ (defined_sees q f) s.second }
 
-  pub see_started : (q : Seen) (k : Views) → See commands functions q k → See commands functions (views.without_job q) k
+  pub see_started : (q : Seen) (k : Views) → See functions q k → See functions (views.without_job q) k
   see_started q k s = record { first = each_some k.first _ _ (started_sees q) s.first; second = each_some k.second _ _ (started_sees q) s.second }
 
-  pub see_swapped : (o : views.After) (k : After) → SeeAfter commands functions o k → SeeAfter commands functions (swapped true o) (record { zero = k.nonzero; nonzero = k.zero })
+  pub see_swapped : (o : views.After) (k : After) → SeeAfter functions o k → SeeAfter functions (swapped true o) (record { zero = k.nonzero; nonzero = k.zero })
   unfolding swapped if_zero if_nonzero
   see_swapped o k s = record { zero = s.nonzero; nonzero = s.zero }
 
-  pub see_kept : (o : views.After) (k : After) → SeeAfter commands functions o k → SeeAfter commands functions (swapped false o) k
+  pub see_kept : (o : views.After) (k : After) → SeeAfter functions o k → SeeAfter functions (swapped false o) k
   unfolding swapped
   see_kept o k s = s
 
-  pub see_any : (k : After) (r : Views) → ((q : Seen) → See commands functions q k.zero → See commands functions q k.nonzero → See commands functions q r)
-      → (o : views.After) → SeeAfter commands functions o k → See commands functions (in_any_case o) r
+  pub see_any : (k : After) (r : Views) → ((q : Seen) → See functions q k.zero → See functions q k.nonzero → See functions q r)
+      → (o : views.After) → SeeAfter functions o k → See functions (in_any_case o) r
   unfolding in_any_case if_zero if_nonzero
   see_any k r both (Both q) s = both q s.zero s.nonzero
   see_any k r both (Each z n) s = both (z ++ n) (see_left z n k.zero s.zero) (see_right z n k.nonzero s.nonzero)
 
-  named_sees : (q : Seen) (h : View) (names : List Text) → Sees commands functions q h → Sees commands functions (gaining (named names) q) h
+  named_sees : (q : Seen) (h : View) (names : List Text) → Sees functions q h → Sees functions (gaining (named names) q) h
   named_sees q h names s = raised_sees q (named names) h h 0 (omega arith) refl (omega arith) s
 
   -- names that are gained add no parameters
-  pub see_named : (q : Seen) (k : Views) (names : List Text) → See commands functions q k → See commands functions (gaining (named names) q) k
+  pub see_named : (q : Seen) (k : Views) (names : List Text) → See functions q k → See functions (gaining (named names) q) k
   see_named q k names s = record { first = each_some k.first _ _ (λ h. named_sees q h names) s.first; second = each_some k.second _ _ (λ h. named_sees q h names) s.second }

@@ -93,8 +93,8 @@ module _ (d : Facts) (c : Certificate) where
 
 module _ (s : Tally) (t : p.Items) (u : ℕ → ℕ) (k : Keeps s t u) where
   -- what is known at a place bounds its count
-  view_bound : (slot : Slot) (place : Count) (q : Seen) (h : handle.View) → index_of s.places.commands (names s) slot ≡ Some place.index → IsWithin (facts (k.claims.claim slot)) (seen_facts k.known k.claims q)
-      → Sees s.places.commands (names s) q h → Bounds s.places u place (Raise 0) h
+  view_bound : (slot : Slot) (place : Count) (q : Seen) (h : handle.View) → index_of (names s) slot ≡ Some place.index → IsWithin (facts (k.claims.claim slot)) (seen_facts k.known k.claims q)
+      → Sees (names s) q h → Bounds s.places u place (Raise 0) h
   unfolding made
   view_bound slot place q h at within sees a b low there =
       let v : View = sees.view in
@@ -109,12 +109,12 @@ module _ (s : Tally) (t : p.Items) (u : ℕ → ℕ) (k : Keeps s t u) where
       let few = sees.shows.made (u h.source.index) in
       omega (arith, below, few)
 
-  each_bound : (slot : Slot) (place : Count) (q : Seen) (o : Option handle.View) → index_of s.places.commands (names s) slot ≡ Some place.index → IsWithin (facts (k.claims.claim slot)) (seen_facts k.known k.claims q)
-      → IfSome o (Sees s.places.commands (names s) q) → IfSome o (Bounds s.places u place (Raise 0))
+  each_bound : (slot : Slot) (place : Count) (q : Seen) (o : Option handle.View) → index_of (names s) slot ≡ Some place.index → IsWithin (facts (k.claims.claim slot)) (seen_facts k.known k.claims q)
+      → IfSome o (Sees (names s) q) → IfSome o (Bounds s.places u place (Raise 0))
   each_bound slot place q None at within sees = tt
   each_bound slot place q (Some h) at within sees = view_bound slot place q h at within sees
 
-  pub place_bounds : (slot : Slot) (place : Count) (n : ℕ) (rule : FlowRule) (q : Seen) (known : Views) → index_of s.places.commands (names s) slot ≡ Some place.index → Each (Unbroken k.known k.claims) (bound slot n rule q)
+  pub place_bounds : (slot : Slot) (place : Count) (n : ℕ) (rule : FlowRule) (q : Seen) (known : Views) → index_of (names s) slot ≡ Some place.index → Each (Unbroken k.known k.claims) (bound slot n rule q)
       → Sight s q known → AreBounds s.places u place (Raise 0) known
   place_bounds slot place n rule q known at all sees =
       let within = entered_within k.known k.claims slot n rule q all in
@@ -292,7 +292,7 @@ module _ (s : Tally) (y : Around) (before : After) (known : Views) (seen : (o : 
       → (by : FlowRule) → Adds s (λ o. e.list_entered (e.item_rule b by) (e.item_around b y) (e.item_seen b (views.in_any_case o)) l) before old new
   unfolding e.item_rule e.item_around e.item_seen
   background_added z l b old new is outside adds by t u o k sight part =
-      adds F11 t u (views.without_job (views.in_any_case o)) k (see_started s.places.commands (names s) (views.in_any_case o) known (seen o sight))
+      adds F11 t u (views.without_job (views.in_any_case o)) k (see_started (names s) (views.in_any_case o) known (seen o sight))
       (subst (λ a. IsPart t (e.list_entered F11 a (views.without_job (views.in_any_case o)) l)) (sym outside)
       (subst (λ a. IsPart t (e.list_entered (e.item_rule a by) (e.item_around a y) (e.item_seen a (views.in_any_case o)) l)) is part))
 
@@ -302,8 +302,8 @@ module _ (s : Tally) (y : Around) (before : After) (known : Views) (seen : (o : 
   background_left l b after is zero first second o sight =
       subst (λ z. SightAfter s (e.item_after (views.in_any_case o) z l) after) (sym is)
       (record {
-        zero = subst (λ v. See s.places.commands (names s) (views.gaining (named (job ∷ [])) (views.in_any_case o)) v) (sym zero) (see_named s.places.commands (names s) (views.in_any_case o) known (job ∷ []) (seen o sight));
-        nonzero = record { first = subst (λ v. IfSome v (Sees s.places.commands (names s) [])) (sym first) tt; second = subst (λ v. IfSome v (Sees s.places.commands (names s) [])) (sym second) tt };
+        zero = subst (λ v. See (names s) (views.gaining (named (job ∷ [])) (views.in_any_case o)) v) (sym zero) (see_named (names s) (views.in_any_case o) known (job ∷ []) (seen o sight));
+        nonzero = record { first = subst (λ v. IfSome v (Sees (names s) [])) (sym first) tt; second = subst (λ v. IfSome v (Sees (names s) [])) (sym second) tt };
       })
 
 -- Along a list by its index
@@ -336,7 +336,7 @@ module _ (s : Tally) (y : Around) (before after : After) (old new : Equations) (
       subst (λ z. SightAfter s (e.linked z o (e.pipeline_after (e.link_seen z o) pipe)) (record { zero = after.zero; nonzero = met })) (sym is)
       (record {
         zero = left.zero;
-        nonzero = both (views.if_nonzero o ++ n) (see_left s.places.commands (names s) (views.if_nonzero o) n before.nonzero sight.nonzero) (see_right s.places.commands (names s) (views.if_nonzero o) n after.nonzero left.nonzero);
+        nonzero = both (views.if_nonzero o ++ n) (see_left (names s) (views.if_nonzero o) n before.nonzero sight.nonzero) (see_right (names s) (views.if_nonzero o) n after.nonzero left.nonzero);
       })
 
   pub or_left : (met : Views) → ((q : Seen) → Sight s q before.nonzero → SightAfter s (e.pipeline_after q pipe) after)
@@ -348,7 +348,7 @@ module _ (s : Tally) (y : Around) (before after : After) (old new : Equations) (
       let z : Seen = views.if_zero (e.pipeline_after (views.if_nonzero o) pipe) in
       subst (λ m. SightAfter s (e.linked m o (e.pipeline_after (e.link_seen m o) pipe)) (record { zero = met; nonzero = after.nonzero })) (sym is)
       (record {
-        zero = both (views.if_zero o ++ z) (see_left s.places.commands (names s) (views.if_zero o) z before.zero sight.zero) (see_right s.places.commands (names s) (views.if_zero o) z after.zero left.zero);
+        zero = both (views.if_zero o ++ z) (see_left (names s) (views.if_zero o) z before.zero sight.zero) (see_right (names s) (views.if_zero o) z after.zero left.zero);
         nonzero = left.nonzero;
       })
 
@@ -402,13 +402,13 @@ module _ (d : Facts) (c : Certificate) where
       let third = each_parts (Unbroken d c) (before ++ its) redirected last.0 in
       (each_parts (Unbroken d c) before its third.0).0
 
-pub entered_bounds : (s : Tally) (y : Around) (by : FlowRule) (m : Command) (known : Views) (place : Count) → index_of s.places.commands (names s) (Before (out-Command m).number) ≡ Some place.index
+pub entered_bounds : (s : Tally) (y : Around) (by : FlowRule) (m : Command) (known : Views) (place : Count) → index_of (names s) (Before (out-Command m).number) ≡ Some place.index
     → (t : p.Items) (u : ℕ → ℕ) (q : Seen) (k : Keeps s t u) → Sight s q known → IsPart t (e.command_entered by y q (trees.command_of s.script.now m)) → AreBounds s.places u place (Raise 0) known
 entered_bounds s y by m known place at t u q k sight part =
     place_bounds s t u k (Before (out-Command m).number) place _ by q known at
     (before_kept k.known k.claims t by y q _ _ _ _ k.rules (subst (λ z. IsPart t (e.command_entered by y q z)) (rules.command_of-out s.script.now m) part)) sight
 
-pub before_index : (s : Tally) (m : Command) (place : Count) → place.index ≡ command_index part.Before (out-Command m).number → index_of s.places.commands (names s) (Before (out-Command m).number) ≡ Some place.index
+pub before_index : (s : Tally) (m : Command) (place : Count) → place.index ≡ command_index part.Before (out-Command m).number → index_of (names s) (Before (out-Command m).number) ≡ Some place.index
 unfolding index_of
 before_index s m place is = ap Some (sym is)
 
@@ -452,7 +452,7 @@ module _ (s : Tally) (y : Around) where
       subst (λ m. IsPart t (e.pipeline_entered by y q m)) (rules.pipeline_of-out b l) part in
       let long : IsPart t (e.commands_entered F12 (e.part_around true y) (views.without_job q) cs) =
       subst (λ m. IsPart t (e.commands_entered (e.part_rule m by) (e.part_around m y) (e.item_seen m q) cs)) (long_true b (out-Pipe l).parts many) whole in
-      adds F12 t u (views.without_job q) k (see_started s.places.commands (names s) q known sight) (subst (λ a. IsPart t (e.commands_entered F12 a (views.without_job q) cs)) (sym inner) long)
+      adds F12 t u (views.without_job q) k (see_started (names s) q known sight) (subst (λ a. IsPart t (e.commands_entered F12 a (views.without_job q) cs)) (sym inner) long)
 
 -- What a command leaves
 
@@ -479,7 +479,7 @@ module _ (s : Tally) (y : Around) (n : ℕ) (known : Views) (list : p.Items) (ol
   unfolding e.items_entered r.kind_bounds
   subshell_kind z before after outside adds own both more t u q k sight part kept tallied =
       more t u k F11 _ both kept
-      (adds F11 t u (views.without_job (views.at (Before n))) k (see_started s.places.commands (names s) (views.at (Before n)) before own)
+      (adds F11 t u (views.without_job (views.at (Before n))) k (see_started (names s) (views.at (Before n)) before own)
       (subst (λ a. IsPart t (e.items_entered F11 a (views.Both (views.without_job (views.at (Before n)))) list)) (sym outside) part) tallied)
 
 -- A loop

@@ -119,7 +119,7 @@ module _ (s : Tally) where
         let first = e.part_entered at.seen (trees.part_of b x) in
         record {
           seen = gaining (part_gains (trees.part_of b x)) at.seen;
-          sight = raised_see s.places.commands (names s) at.seen (part_gains (trees.part_of b x)) now left one.gained at.sight;
+          sight = raised_see (names s) at.seen (part_gains (trees.part_of b x)) now left one.gained at.sight;
           part = last_part t first (e.word_entered (gaining (part_gains (trees.part_of b x)) at.seen) (parts_from b xs)) at.part;
           tallies = λ tallied. one.adds t u at.seen k at.sight (first_part t first (e.word_entered (gaining (part_gains (trees.part_of b x)) at.seen) (parts_from b xs)) at.part) (at.tallies tallied);
         };
@@ -155,7 +155,7 @@ module _ (s : Tally) where
     unfolding e.items_entered part_gains
     substitution_part n list y new outside adds = record {
       adds = λ t u q k sight part.
-          adds F11 t u (views.without_job q) k (see_started s.places.commands (names s) q known sight)
+          adds F11 t u (views.without_job q) k (see_started (names s) q known sight)
           (subst (λ a. IsPart t (e.items_entered F11 a (views.Both (views.without_job q)) list)) (sym outside) part);
       gained = raised_none known;
     }
@@ -202,7 +202,7 @@ module _ (s : Tally) where
   operand_words w rest known left old new one = record {
     adds = λ t u q last k sight part. record {
       seen = gaining (word_gains w) q;
-      sight = raised_see s.places.commands (names s) q (word_gains w) known left one.gained sight;
+      sight = raised_see (names s) q (word_gains w) known left one.gained sight;
       part = last_part t (e.word_entered q w) (e.elements_entered (gaining (word_gains w) q) last rest) part;
       tallies = one.adds t u q k sight (first_part t (e.word_entered q w) (e.elements_entered (gaining (word_gains w) q) last rest) part);
     };
@@ -237,7 +237,7 @@ module _ (s : Tally) where
   values_then es mid rest known now left old one new a c = record {
     adds = λ t u q last k sight part.
         let x = a.adds t u q last k sight part in
-        let z = c.adds t u x.0.0 last k (weaker_see s.places.commands (names s) last 0 known now a.kept sight) x.0.1 in
+        let z = c.adds t u x.0.0 last k (weaker_see (names s) last 0 known now a.kept sight) x.0.1 in
         (z.0, λ tallied. z.1 (x.1 tallied));
     gained = λ end h. a.gained end (c.gained end h);
     kept = raised_then 0 0 known now left a.kept c.kept;
@@ -294,16 +294,16 @@ module _ (s : Tally) where
   behind_left n es inside words left old one two own first second =
       let gained : Raised (words_gains (operands_in es)).args inside words = first.gained words (raised_none words) in
       let all : Raised (settled_gains s es) words left = second.gained left (raised_none left) in
-      let sight : Sight s (behind_words es (views.at (Before n))) words = raised_see s.places.commands (names s) (views.at (Before n)) (words_gains (operands_in es)) inside words gained own in
+      let sight : Sight s (behind_words es (views.at (Before n))) words = raised_see (names s) (views.at (Before n)) (words_gains (operands_in es)) inside words gained own in
       record {
-        words = weaker_see s.places.commands (names s) (behind_words es (views.at (Before n))) 0 words left second.kept sight;
-        settled = λ g few. raised_see s.places.commands (names s) (behind_words es (views.at (Before n))) g words left (raised_less (settled_gains s es) g.args words left few all) sight;
+        words = weaker_see (names s) (behind_words es (views.at (Before n))) 0 words left second.kept sight;
+        settled = λ g few. raised_see (names s) (behind_words es (views.at (Before n))) g words left (raised_less (settled_gains s es) g.args words left few all) sight;
       }
 
   words_sight : (es : p.Elements) (q : Seen) (inside words : Views) (old one : Equations) → PassesWords s es p.no_elements inside words old one → Sight s q inside → Sight s (behind_words es q) words
   unfolding operands_in words_gains
   words_sight es q inside words old one first sight =
-      raised_see s.places.commands (names s) q (words_gains (operands_in es)) inside words (first.gained words (raised_none words)) sight
+      raised_see (names s) q (words_gains (operands_in es)) inside words (first.gained words (raised_none words)) sight
 
   pub simple_added : (y : Around) (n : ℕ) (es : p.Elements) (inside words left : Views) (old one two new : Equations)
       → PassesWords s es p.no_elements inside words old one → PassesValues s es p.no_elements words left one two → AddsSimple s y n es left two new → AddsCommand s y n (p.Simple es) inside old new

@@ -28,26 +28,26 @@ end_place end.Nonzero = 2
 abbrev pub command_index : Part → ℕ → ℕ
 command_index p number = number * 7 + part_place p
 
-abbrev pub function_index : ℕ → End → ℕ → ℕ
-function_index commands e function = function * 7 + (4 + end_place e)
+abbrev pub function_index : End → ℕ → ℕ
+function_index e function = function * 7 + (4 + end_place e)
 
 -- The index of the count of a slot, if the functions have these names.
-unfoldable pub index_of : ℕ → List Text → Slot → Option ℕ
-index_of commands functions (Before n) = Some (command_index part.Before n)
-index_of commands functions (AfterZero n) = Some (command_index part.Zero n)
-index_of commands functions (AfterNonzero n) = Some (command_index part.Nonzero n)
-index_of commands functions (Head n) = Some (command_index part.Head n)
-index_of commands functions (Entry f) = option_map (function_index commands end.Entered) (number_of functions f)
-index_of commands functions (ReturnsZero f) = option_map (function_index commands end.Zero) (number_of functions f)
-index_of commands functions (ReturnsNonzero f) = option_map (function_index commands end.Nonzero) (number_of functions f)
+unfoldable pub index_of : List Text → Slot → Option ℕ
+index_of functions (Before n) = Some (command_index part.Before n)
+index_of functions (AfterZero n) = Some (command_index part.Zero n)
+index_of functions (AfterNonzero n) = Some (command_index part.Nonzero n)
+index_of functions (Head n) = Some (command_index part.Head n)
+index_of functions (Entry f) = option_map (function_index end.Entered) (number_of functions f)
+index_of functions (ReturnsZero f) = option_map (function_index end.Zero) (number_of functions f)
+index_of functions (ReturnsNonzero f) = option_map (function_index end.Nonzero) (number_of functions f)
 
-module _ (commands : ℕ) (functions : List Text) where
+module _ (functions : List Text) where
   -- the view is of a slot, and its steps have no call and leave at most the greater of the slot's
   -- count and the least one
   pub record Shows (h : View) (v : views.View) : Type 0 where
     pub slot : Slot
     pub source : v.source ≡ At slot
-    pub place : index_of commands functions slot ≡ Some h.source.index
+    pub place : index_of functions slot ≡ Some h.source.index
     pub passes : (c : Certificate) → AllPass c v.steps
     pub made : (n : ℕ) → all_made v.steps n ≤ max n h.least
 

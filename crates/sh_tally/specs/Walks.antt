@@ -70,13 +70,13 @@ module _ (s : Tally) where
     pub known : Facts
     pub claims : Certificate
     pub rules : flat_map (broken known claims) (script_bounds t) ≡ []
-    pub counts : (slot : Slot) (i a : ℕ) → index_of s.places.commands names slot ≡ Some i → claimed s.places i ≡ Some a → HasCount (u i) (facts (claims.claim slot))
+    pub counts : (slot : Slot) (i a : ℕ) → index_of names slot ≡ Some i → claimed s.places i ≡ Some a → HasCount (u i) (facts (claims.claim slot))
 
   abbrev pub Sight : Seen → Views → Type 0
-  Sight q known = See s.places.commands names q known
+  Sight q known = See names q known
 
   abbrev pub SightAfter : views.After → After → Type 0
-  SightAfter o known = SeeAfter s.places.commands names o known
+  SightAfter o known = SeeAfter names o known
 
   -- what is added if these commands are entered where this is known
   abbrev pub Adds : (views.After → List Entered) → After → Equations → Equations → Type 0
@@ -173,13 +173,13 @@ module _ (s : Tally) where
   -- what is added for the count at an end of this function
   abbrev pub AddsFunction : End → Text → Views → Change → Equations → Equations → Type 0
   AddsFunction end name known change old new =
-      (u : ℕ → ℕ) → ((place : Count) → option_map (function_index s.places.commands end) (number_of names name) ≡ Some place.index → AreBounds s.places u place change known)
+      (u : ℕ → ℕ) → ((place : Count) → option_map (function_index end) (number_of names name) ≡ Some place.index → AreBounds s.places u place change known)
       → Tallies s.places u old new
 
   -- a run comes to this end of the function
   pub record IsReached (end : End) (name : Text) : Type 0 where
     pub index : ℕ
-    pub place : option_map (function_index s.places.commands end) (number_of names name) ≡ Some index
+    pub place : option_map (function_index end) (number_of names name) ≡ Some index
     pub count : ℕ
     pub counts : claimed s.places index ≡ Some count
 

@@ -111,10 +111,7 @@ impl Tally<'_> {
         ensures { IfOk result (λ unit. AddsFunction self.now end name.now known change equations.old equations.new) }
     {
         match self.function(name) {
-            Some(function) => {
-                let place = self.places.of_function(end, function);
-                self.bound(equations, place, known, change)
-            }
+            Some(function) => self.bound(equations, end.of(function), known, change),
             None => Ok(()),
         }
     }
@@ -138,7 +135,7 @@ impl Tally<'_> {
         let Some(function) = self.function(name) else {
             return Ok(());
         };
-        match self.places.args(self.places.of_function(end, function)) {
+        match self.places.args(end.of(function)) {
             Some(_) => self.bound(equations, place, known, Change::NONE),
             None => Ok(()),
         }
@@ -149,7 +146,7 @@ impl Tally<'_> {
         ensures { Sight self.now (at (Entry name.now)) result }
     {
         match self.function(name) {
-            Some(function) => Views::at(self.places.of_function(End::Entered, function)),
+            Some(function) => Views::at(End::Entered.of(function)),
             None => Views::NONE,
         }
     }

@@ -28,8 +28,6 @@ pub enum End {
 /// three of the function. A place to which no run comes has none.
 #[derive(Clone, Copy, Debug)]
 pub struct Places<'a> {
-    /// How many commands there are.
-    pub commands: u16,
     pub counts: &'a [Option<u16>],
 }
 
@@ -59,6 +57,15 @@ impl Part {
 }
 
 impl End {
+    /// The unknown count at this end of the function of an index.
+    pub fn of(self, function: u16) -> Count
+        ensures { result.index ≡ function_index self function }
+    {
+        Count {
+            index: function as usize * 7 + (4 + self.place()),
+        }
+    }
+
     // Its index among the places of a function.
     #[tactic(auto, unfolding(crate::specs::Views::end_place))]
     fn place(self) -> usize
@@ -85,15 +92,6 @@ fn at_first(count: &Option<u16>) -> u16
 }
 
 impl Places<'_> {
-    /// The unknown count at an end of the function of an index.
-    pub fn of_function(&self, end: End, function: u16) -> Count
-        ensures { result.index ≡ function_index self.now.commands end function }
-    {
-        Count {
-            index: function as usize * 7 + (4 + end.place()),
-        }
-    }
-
     /// The count that is claimed at a place, if any run comes there.
     pub fn args(&self, place: Count) -> Option<u16>
         ensures { result ≡ claimed self.now place.index }

@@ -80,7 +80,7 @@ impl Views {
     /// What is known at a place.
     #[tactic(auto, using(crate::proofs::ViewLemmas::at_sees))]
     pub fn at(source: Count) -> Views
-        ensures { (commands : ℕ) (functions : List Text) (slot : Slot) → index_of commands functions slot ≡ Some source.index → See commands functions (views.at slot) result }
+        ensures { (functions : List Text) (slot : Slot) → index_of functions slot ≡ Some source.index → See functions (views.at slot) result }
     {
         Views {
             first: Some(View { source, least: 0 }),
@@ -100,7 +100,7 @@ impl Views {
 
     // With one view more, if any run comes to its place and it claims less than one of these.
     fn with(self, places: &Places<'_>, view: Option<View>) -> Views
-        ensures { (commands : ℕ) (functions : List Text) (q : Seen) → See commands functions q self → IfSome view (Sees commands functions q) → See commands functions q result }
+        ensures { (functions : List Text) (q : Seen) → See functions q self → IfSome view (Sees functions q) → See functions q result }
     {
         let Some(view) = view else {
             return self;
@@ -125,7 +125,7 @@ impl Views {
 
     /// What both see.
     pub fn and(self, places: &Places<'_>, other: Views) -> Views
-        ensures { (commands : ℕ) (functions : List Text) (q : Seen) → See commands functions q self → See commands functions q other → See commands functions q result }
+        ensures { (functions : List Text) (q : Seen) → See functions q self → See functions q other → See functions q result }
     {
         Views::NONE
             .with(places, self.first)
@@ -139,7 +139,7 @@ impl After {
     /// Whatever the status is.
     #[tactic(auto, unfolding(sh_domain::specs::Views::if_zero, sh_domain::specs::Views::if_nonzero))]
     pub fn both(views: Views) -> After
-        ensures { (commands : ℕ) (functions : List Text) (q : Seen) → See commands functions q views → SeeAfter commands functions (Both q) result }
+        ensures { (functions : List Text) (q : Seen) → See functions q views → SeeAfter functions (Both q) result }
     {
         After {
             zero: views,
@@ -149,7 +149,7 @@ impl After {
 
     /// After the command of a number.
     pub fn command(number: u32) -> After
-        ensures { (commands : ℕ) (functions : List Text) → SeeAfter commands functions (after_command number) result }
+        ensures { (functions : List Text) → SeeAfter functions (after_command number) result }
     {
         After {
             zero: Views::at(Part::Zero.of(number)),
@@ -159,7 +159,7 @@ impl After {
 
     /// With the statuses exchanged, if it is negated.
     pub fn swapped(self, is_negated: bool) -> After
-        ensures { (commands : ℕ) (functions : List Text) (o : views.After) → SeeAfter commands functions o self → SeeAfter commands functions (views.swapped is_negated o) result }
+        ensures { (functions : List Text) (o : views.After) → SeeAfter functions o self → SeeAfter functions (views.swapped is_negated o) result }
     {
         if is_negated {
             After {
@@ -174,8 +174,8 @@ impl After {
     /// What is known after the condition of a loop if it takes its next turn, and if it ends.
     #[tactic(auto, unfolding(sh_domain::specs::Entries::turns, sh_domain::specs::Entries::ends))]
     pub fn turned(self, kind: LoopKind) -> After
-        ensures turns { (commands : ℕ) (functions : List Text) (o : views.After) → SeeAfter commands functions o self → See commands functions (turns kind o) result.zero }
-        ensures ends { (commands : ℕ) (functions : List Text) (o : views.After) → SeeAfter commands functions o self → See commands functions (ends kind o) result.nonzero }
+        ensures turns { (functions : List Text) (o : views.After) → SeeAfter functions o self → See functions (turns kind o) result.zero }
+        ensures ends { (functions : List Text) (o : views.After) → SeeAfter functions o self → See functions (ends kind o) result.nonzero }
     {
         match kind {
             LoopKind::While => self,
@@ -188,7 +188,7 @@ impl After {
 
     /// What is known after any status.
     pub fn in_any_case(self, places: &Places<'_>) -> Views
-        ensures { (commands : ℕ) (functions : List Text) (o : views.After) → SeeAfter commands functions o self → See commands functions (views.in_any_case o) result }
+        ensures { (functions : List Text) (o : views.After) → SeeAfter functions o self → See functions (views.in_any_case o) result }
     {
         self.zero.and(places, self.nonzero)
     }

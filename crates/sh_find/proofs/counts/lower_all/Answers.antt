@@ -1,4 +1,4 @@
-use Rattle.sh_find.proofs.SweepLemmas.{ready_again, swept_more}
+use Rattle.sh_drafts.proofs.ReadyLemmas.{ready_again, swept_more}
 use Rattle.sh_find.proofs.counts.lower_all.Goals as goal
 
 pub lower_claimed-requires-clause-ready : goal.lower_claimed-requires-clause-ready

@@ -1,4 +1,4 @@
-use Rattle.sh_find.specs.Sweeps.{IsSwept}
+use Rattle.sh_drafts.specs.Ready.{IsSwept}
 use Rattle.sh_find.proofs.counts.lower_all.Given as goal
 
 abbrev pub invariant-loop-count : goal.invariant-loop-count

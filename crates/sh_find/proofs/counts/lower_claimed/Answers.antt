@@ -3,7 +3,7 @@ use Rattle.sh_domain.specs.Facts.{facts}
 use Rattle.sh_counts.specs.Equations.{worth}
 use Rattle.sh_tally.specs.Counts.{HasAtMost}
 use Rattle.sh_find.specs.Counts.{HasAtMostThere}
-use Rattle.sh_find.specs.Places.{claim_there}
+use Rattle.sh_drafts.specs.Places.{claim_there}
 use Rattle.sh_find.proofs.counts.lower_claimed.Goals as goal
 
 pub lower_count-requires-clause-over : goal.lower_count-requires-clause-over

@@ -1,5 +1,5 @@
 use Rattle.std.proofs.Common.{ap, sym, ◌∙◌, true≢false}
-use Rattle.sh_find.proofs.SweepLemmas.{lowered_swept, names_numbered, swept_same}
+use Rattle.sh_drafts.proofs.ReadyLemmas.{lowered_swept, names_numbered, swept_same}
 use Rattle.sh_find.proofs.counts.lower_count.Goals as goal
 
 pub with_args-known-requires : goal.with_args-known-requires

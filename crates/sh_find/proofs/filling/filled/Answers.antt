@@ -7,15 +7,16 @@ use Rattle.sh_table.specs.Calls.{Table}
 use Rattle.sh_domain.specs.Reading.{AreLoops, loops_of}
 use Rattle.sh_domain.proofs.VariableLemmas.{read_names_variables}
 use Rattle.sh_domain.specs.Admitted.{functions_in}
-use Rattle.sh_find.specs.Working.{IsWorking}
+use Rattle.sh_drafts.specs.Working.{IsWorking}
 use Rattle.sh_find.proofs.FillLemmas.{begun_over, counts, has_stated, is_filled, stateable}
-use Rattle.sh_find.proofs.GreatestLemmas.{few_commands, numbered}
+use Rattle.sh_sweeps.proofs.LoopsLemmas.{few_listed}
+use Rattle.sh_drafts.proofs.ReadyLemmas.{numbered}
 use Rattle.sh_find.proofs.filling.filled.Goals as goal
 
 pub overflow_cast-commands : goal.overflow_cast-commands
 overflow_cast-commands c =
     let s = c.args.subject.now in
-    let few = few_commands s.script.now s.policy.now s.tree.now s.names.now c.requires.admitted s.commands.now c.requires.commands in
+    let few = few_listed s.script.now s.policy.now s.tree.now s.names.now c.requires.admitted s.commands.now c.requires.commands in
     omega (arith, few)
 
 pub begun-requires-clause-stateable : goal.begun-requires-clause-stateable
@@ -89,7 +90,7 @@ returns-clause-filled c =
     let loops = loops_of s.commands.now in
     let are : AreLoops s.tree.now loops = record { commands = s.commands.now; all = c.requires.commands; ordered = c.requires.ordered; each = refl } in
     let long : length loops ≡ length s.commands.now = length-map s.commands.now _ in
-    let few = few_commands s.script.now s.policy.now s.tree.now s.names.now c.requires.admitted s.commands.now c.requires.commands in
+    let few = few_listed s.script.now s.policy.now s.tree.now s.names.now c.requires.admitted s.commands.now c.requires.commands in
     is_filled s c.requires.admitted c.requires.stated loops are m same c.in_ok-certificate.certificate c.settle.new.draft.certificate c.in_ok-certificate.ensures.begun
     (c.in_ok-settle.ensures loops m c.in_ok-certificate.ensures.working) c.count-count.ensures.distinct (omega (arith, long, few)) (omega (arith, c.functions.ensures.few))
 

@@ -1,7 +1,6 @@
 use Rattle.std.proofs.Common.{length}
 use Rattle.sh_domain.specs.Admitted.{functions_in}
-use Rattle.sh_find.proofs.GreatestLemmas.{less_left}
-use Rattle.sh_find.proofs.SweepLemmas.{settled, swept_less, turned_more, turned_none}
+use Rattle.sh_find.proofs.GreatestLemmas.{less_left, settled, swept_less, turned_more, turned_none}
 use Rattle.sh_find.proofs.search.settle.Goals as goal
 
 pub turn-requires-clause-admitted : goal.turn-requires-clause-admitted

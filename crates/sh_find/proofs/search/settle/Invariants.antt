@@ -1,5 +1,4 @@
-use Rattle.sh_find.proofs.GreatestLemmas.{left}
-use Rattle.sh_find.proofs.SweepLemmas.{IsTurned}
+use Rattle.sh_find.proofs.GreatestLemmas.{left, IsTurned}
 use Rattle.sh_find.proofs.search.settle.Given as goal
 
 abbrev pub invariant-turns : goal.invariant-turns

@@ -12,21 +12,23 @@ use Rattle.sh_domain.specs.Reading.{AreLoops}
 use Rattle.sh_domain.specs.Reading.{loops_of}
 use Rattle.sh_domain.proofs.VariableLemmas.{read_names_variables}
 use Rattle.sh_domain.specs.Admitted.{claims_in, functions_in}
-use Rattle.sh_find.specs.Stated.{ClaimsStated, asked_bounds}
-use Rattle.sh_find.specs.Sweeps.{asked_of}
-use Rattle.sh_find.specs.Turns.{sheet_by}
-use Rattle.sh_find.specs.Working.{IsWorking}
-use Rattle.sh_find.specs.Starts.{start_of}
-use Rattle.sh_find.proofs.AboveLemmas.{first_above}
-use Rattle.sh_find.proofs.GreatestLemmas.{few_commands, is_greatest, numbered}
-use Rattle.sh_find.proofs.StartLemmas.{declared_start}
-use Rattle.sh_find.proofs.StatedLemmas.{all_asked}
+use Rattle.sh_drafts.specs.Stated.{ClaimsStated, asked_bounds}
+use Rattle.sh_drafts.specs.Ready.{asked_of}
+use Rattle.sh_drafts.specs.Turns.{sheet_by}
+use Rattle.sh_drafts.specs.Working.{IsWorking}
+use Rattle.sh_drafts.specs.Starts.{start_of}
+use Rattle.sh_drafts.proofs.AboveLemmas.{first_above}
+use Rattle.sh_find.proofs.GreatestLemmas.{is_greatest}
+use Rattle.sh_sweeps.proofs.LoopsLemmas.{few_listed}
+use Rattle.sh_drafts.proofs.ReadyLemmas.{numbered}
+use Rattle.sh_drafts.proofs.StartLemmas.{declared_start}
+use Rattle.sh_sweeps.proofs.StatedLemmas.{all_asked}
 use Rattle.sh_find.proofs.search.settled.Goals as goal
 
 pub unreached-requires : goal.unreached-requires
 unreached-requires c =
     let s = c.args.subject.now in
-    let few = few_commands s.script.now s.policy.now s.tree.now s.names.now c.requires.admitted s.commands.now c.requires.commands in
+    let few = few_listed s.script.now s.policy.now s.tree.now s.names.now c.requires.admitted s.commands.now c.requires.commands in
     omega (arith, few)
 
 pub settle-requires-clause-ready : goal.settle-requires-clause-ready
@@ -75,7 +77,7 @@ returns-clause-greatest c =
     let loops = loops_of s.commands.now in
     let are : AreLoops s.tree.now loops = record { commands = s.commands.now; all = c.requires.commands; ordered = c.requires.ordered; each = refl } in
     let long : length loops ≡ length s.commands.now = length-map s.commands.now _ in
-    let few = few_commands s.script.now s.policy.now s.tree.now s.names.now c.requires.admitted s.commands.now c.requires.commands in
+    let few = few_listed s.script.now s.policy.now s.tree.now s.names.now c.requires.admitted s.commands.now c.requires.commands in
     let working = c.in_ok-certificate.ensures.working s.names.now (sym c.count-count.ensures.count) in
     let found = c.in_ok-settle.ensures loops m working in
     let ks = script_bounds (script_of s.script.now s.tree.now) in

@@ -1,4 +1,4 @@
-use Rattle.sh_find.proofs.SweepLemmas.{ready_again, swept_more}
+use Rattle.sh_drafts.proofs.ReadyLemmas.{ready_again, swept_more}
 use Rattle.sh_find.proofs.search.sweep_by_need.Goals as goal
 
 pub sweep_waiting-requires : goal.sweep_waiting-requires

@@ -1,4 +1,4 @@
-use Rattle.sh_find.specs.Sweeps.{IsSwept}
+use Rattle.sh_drafts.specs.Ready.{IsSwept}
 use Rattle.sh_find.proofs.search.sweep_by_need.Given as goal
 
 abbrev pub invariant-loop-time : goal.invariant-loop-time

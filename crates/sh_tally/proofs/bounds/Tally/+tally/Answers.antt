@@ -58,25 +58,25 @@ pub item-returns-then-not-item-clause-adds : goal.item-returns-then-not-item-cla
 item-returns-then-not-item-clause-adds t c =
     let s = c.args.self.now in
     IfOk-weaker c.and_or.result _ _
-    (λ after adds. foreground_added s (walks.around s.script.now c.args.around.now) c.args.before c.in_any_case-known.result (c.in_any_case-known.ensures s.places.commands (names s)) (trees.and_or_of s.script.now (out-Item c.args.item.now).list) (out-Item c.args.item.now).background c.args.equations.now c.and_or.new.equations c.if-not-item.true adds)
+    (λ after adds. foreground_added s (walks.around s.script.now c.args.around.now) c.args.before c.in_any_case-known.result (c.in_any_case-known.ensures (names s)) (trees.and_or_of s.script.now (out-Item c.args.item.now).list) (out-Item c.args.item.now).background c.args.equations.now c.and_or.new.equations c.if-not-item.true adds)
     c.and_or.ensures.adds
 
 pub item-returns-then-not-item-clause-leaves : goal.item-returns-then-not-item-clause-leaves
 item-returns-then-not-item-clause-leaves t c =
     let s = c.args.self.now in
     IfOk-weaker c.and_or.result _ _
-    (λ after leaves. foreground_left s (walks.around s.script.now c.args.around.now) c.args.before c.in_any_case-known.result (c.in_any_case-known.ensures s.places.commands (names s)) (trees.and_or_of s.script.now (out-Item c.args.item.now).list) (out-Item c.args.item.now).background after c.if-not-item.true leaves)
+    (λ after leaves. foreground_left s (walks.around s.script.now c.args.around.now) c.args.before c.in_any_case-known.result (c.in_any_case-known.ensures (names s)) (trees.and_or_of s.script.now (out-Item c.args.item.now).list) (out-Item c.args.item.now).background after c.if-not-item.true leaves)
     c.and_or.ensures.leaves
 
 pub item-returns-clause-adds : goal.item-returns-clause-adds
 item-returns-clause-adds t c =
     let s = c.args.self.now in
-    background_added s (walks.around s.script.now c.args.around.now) c.args.before c.in_any_case-known.result (c.in_any_case-known.ensures s.places.commands (names s)) (walks.around s.script.now c.alone-outside.result) (trees.and_or_of s.script.now (out-Item c.args.item.now).list) (out-Item c.args.item.now).background c.args.equations.now _ c.if-not-item.false (c.alone-outside.ensures s.script.now) c.in_ok-and_or.ensures.adds
+    background_added s (walks.around s.script.now c.args.around.now) c.args.before c.in_any_case-known.result (c.in_any_case-known.ensures (names s)) (walks.around s.script.now c.alone-outside.result) (trees.and_or_of s.script.now (out-Item c.args.item.now).list) (out-Item c.args.item.now).background c.args.equations.now _ c.if-not-item.false (c.alone-outside.ensures s.script.now) c.in_ok-and_or.ensures.adds
 
 pub item-returns-clause-leaves : goal.item-returns-clause-leaves
 item-returns-clause-leaves t c =
     let s = c.args.self.now in
-    background_left s (walks.around s.script.now c.args.around.now) c.args.before c.in_any_case-known.result (c.in_any_case-known.ensures s.places.commands (names s)) (trees.and_or_of s.script.now (out-Item c.args.item.now).list) (out-Item c.args.item.now).background _ c.if-not-item.false refl refl refl
+    background_left s (walks.around s.script.now c.args.around.now) c.args.before c.in_any_case-known.result (c.in_any_case-known.ensures (names s)) (trees.and_or_of s.script.now (out-Item c.args.item.now).list) (out-Item c.args.item.now).background _ c.if-not-item.false refl refl refl
 
 pub link-returns-in_ok-after-in-AndThen-clause-adds : goal.link-returns-in_ok-after-in-AndThen-clause-adds
 link-returns-in_ok-after-in-AndThen-clause-adds t c =
@@ -86,7 +86,7 @@ link-returns-in_ok-after-in-AndThen-clause-adds t c =
 pub link-returns-in_ok-after-in-AndThen-clause-leaves : goal.link-returns-in_ok-after-in-AndThen-clause-leaves
 link-returns-in_ok-after-in-AndThen-clause-leaves t c =
     let s = c.args.self.now in
-    and_left s (walks.around s.script.now c.args.around.now) c.args.before c.in_ok-after-in-AndThen.after c.args.equations.now c.args.equations.now (trees.pipeline_of s.script.now c.args.pipe.now) c.and.result c.in_ok-after-in-AndThen.ensures.leaves (c.and.ensures s.places.commands (names s)) c.args.link c.in-AndThen.is
+    and_left s (walks.around s.script.now c.args.around.now) c.args.before c.in_ok-after-in-AndThen.after c.args.equations.now c.args.equations.now (trees.pipeline_of s.script.now c.args.pipe.now) c.and.result c.in_ok-after-in-AndThen.ensures.leaves (c.and.ensures (names s)) c.args.link c.in-AndThen.is
 
 pub link-returns-in_ok-after-in-OrElse-clause-adds : goal.link-returns-in_ok-after-in-OrElse-clause-adds
 link-returns-in_ok-after-in-OrElse-clause-adds t c =
@@ -96,7 +96,7 @@ link-returns-in_ok-after-in-OrElse-clause-adds t c =
 pub link-returns-in_ok-after-in-OrElse-clause-leaves : goal.link-returns-in_ok-after-in-OrElse-clause-leaves
 link-returns-in_ok-after-in-OrElse-clause-leaves t c =
     let s = c.args.self.now in
-    or_left s (walks.around s.script.now c.args.around.now) c.args.before c.in_ok-after-in-OrElse.after c.args.equations.now c.args.equations.now (trees.pipeline_of s.script.now c.args.pipe.now) c.and-in-OrElse.result c.in_ok-after-in-OrElse.ensures.leaves (c.and-in-OrElse.ensures s.places.commands (names s)) c.args.link c.in-OrElse.is
+    or_left s (walks.around s.script.now c.args.around.now) c.args.before c.in_ok-after-in-OrElse.after c.args.equations.now c.args.equations.now (trees.pipeline_of s.script.now c.args.pipe.now) c.and-in-OrElse.result c.in_ok-after-in-OrElse.ensures.leaves (c.and-in-OrElse.ensures (names s)) c.args.link c.in-OrElse.is
 
 pub items-loop-item-preserved : goal.items-loop-item-preserved
 items-loop-item-preserved t c =
@@ -163,7 +163,7 @@ pipe-returns-in-empty-clause-leaves t c =
     let s = c.args.self.now in
     let few = c.in-empty.len_below in
     pipe_many_left s (walks.around s.script.now c.args.around.now) c.args.pipe.now c.swapped.result q (λ one. let same = ap length c.as_slice.ensures in omega (arith, one, few, same))
-    (c.swapped.ensures s.places.commands (names s) (views.Both q) (c.both.ensures s.places.commands (names s) q sight))
+    (c.swapped.ensures (names s) (views.Both q) (c.both.ensures (names s) q sight))
 
 pub pipe-returns-in_ok-command-in-len1-clause-adds : goal.pipe-returns-in_ok-command-in-len1-clause-adds
 pipe-returns-in_ok-command-in-len1-clause-adds t c =
@@ -181,7 +181,7 @@ pipe-returns-in_ok-command-in-len1-clause-leaves t c =
     let high = c.in-len1.len_below in
     let one = sym c.as_slice.ensures ∙ one_of c.as_slice.result.now c.command-item.result (omega (arith, low)) (omega (arith, high)) c.command-item.is in
     pipe_one_left s (walks.around s.script.now c.args.around.now) c.args.pipe.now c.command-item.result c.swapped-in-len1.result one
-    (c.swapped-in-len1.ensures s.places.commands (names s) _ (c.command-in-len1.ensures s.places.commands (names s))) q
+    (c.swapped-in-len1.ensures (names s) _ (c.command-in-len1.ensures (names s))) q
 
 pub pipe-returns-in_ok-parts-in-len2-up-clause-adds : goal.pipe-returns-in_ok-parts-in-len2-up-clause-adds
 pipe-returns-in_ok-parts-in-len2-up-clause-adds t c =
@@ -200,7 +200,7 @@ pipe-returns-in_ok-parts-in-len2-up-clause-leaves t c =
     let many = c.in-len2-up.len_at_least in
     let same = ap length c.as_slice.ensures in
     pipe_many_left s (walks.around s.script.now c.args.around.now) c.args.pipe.now c.swapped-in-len2-up.result q (λ one. omega (arith, one, many, same))
-    (c.swapped-in-len2-up.ensures s.places.commands (names s) (views.Both q) (c.both-in-len2-up.ensures s.places.commands (names s) q sight))
+    (c.swapped-in-len2-up.ensures (names s) (views.Both q) (c.both-in-len2-up.ensures (names s) q sight))
 
 pub group-returns : goal.group-returns
 group-returns t c =
@@ -212,16 +212,16 @@ pub subshell-returns : goal.subshell-returns
 unfolding index_of
 subshell-returns t c =
     let s = c.args.self.now in
-    let own = c.at-before.ensures s.places.commands (names s) (Before c.args.number) (ap Some (sym c.of.ensures)) in
+    let own = c.at-before.ensures (names s) (Before c.args.number) (ap Some (sym c.of.ensures)) in
     subshell_kind s (walks.around s.script.now c.args.around.now) c.args.number c.args.inside (trees.script_of s.script.now c.args.list.now) c.args.equations.now c.list.new.equations c.leaves.new.equations
-    (walks.around s.script.now c.alone-outside.result) c.at-before.result c.both.result (c.alone-outside.ensures s.script.now) c.in_ok-list.ensures.adds own (c.both.ensures s.places.commands (names s) (at (Before c.args.number)) own) c.in_ok-leaves.ensures
+    (walks.around s.script.now c.alone-outside.result) c.at-before.result c.both.result (c.alone-outside.ensures s.script.now) c.in_ok-list.ensures.adds own (c.both.ensures (names s) (at (Before c.args.number)) own) c.in_ok-leaves.ensures
 
 pub turns-returns : goal.turns-returns
 unfolding index_of
 turns-returns t c =
     let s = c.args.self.now in
     let b = s.script.now in
-    let n = s.places.commands in
+    let n = in
     let y = walks.around b c.args.around.now in
     let own = c.at-head.ensures n (names s) (Head c.args.number) (ap Some (sym c.of-turn.ensures)) in
     subst (λ z. AddsKind s y c.args.number z c.args.inside c.args.equations.now c.leaves.new.equations) (sym (ap (trees.kind_of b) c.in-Loop.is ∙ rules.kind_of-Loop b c.in-Loop.kind c.in-Loop.condition c.in-Loop.body))
@@ -513,7 +513,7 @@ define-returns t c =
     let first = subst (λ x. AddsFunction s end.Zero x c.command-after.result.zero (Raise 0) c.command.new.equations c.bound_function.new.equations) c.text-text.ensures c.in_ok-bound_function.ensures in
     let second = subst (λ x. AddsFunction s end.Nonzero x c.command-after.result.nonzero (Raise 0) c.bound_function.new.equations c.bound_function-2.new.equations) c.text-text.ensures c.in_ok-bound_function-2.ensures in
     define_added s y (walks.around b c.in_function-outside.result) c.args.number f c.args.body.now c.args.inside c.entered-known.result c.command-after.result c.of.result c.args.equations.now c.command.new.equations c.bound_function.new.equations c.bound_function-2.new.equations c.bound.new.equations
-    (c.in_function-outside.ensures b) own c.in_ok-command.ensures (c.command-after.ensures s.places.commands (names s)) first second c.of.ensures c.in_ok-bound.ensures
+    (c.in_function-outside.ensures b) own c.in_ok-command.ensures (c.command-after.ensures (names s)) first second c.of.ensures c.in_ok-bound.ensures
 
 pub command-returns-in-empty : goal.command-returns-in-empty
 command-returns-in-empty t c =
@@ -525,7 +525,7 @@ command-returns-in-empty t c =
     let none : (out-Command m).redirects ≡ [] = sym c.as_slice.ensures ∙ empty_of c.as_slice.result.now few in
     IfOk-weaker c.kind.result _ _
     (λ unit adds. command_added s y m c.args.known c.of-place.result c.args.equations.now c.bound.new.equations c.of-place.ensures c.in_ok-bound.ensures c.at-inside.result c.kind.new.equations none
-    (c.at-inside.ensures s.places.commands (names s) (Before (out-Command m).number) (before_index s m c.of-place.result c.of-place.ensures)) adds)
+    (c.at-inside.ensures (names s) (Before (out-Command m).number) (before_index s m c.of-place.result c.of-place.ensures)) adds)
     c.kind.ensures
 
 pub command-returns-in-len1-up : goal.command-returns-in-len1-up

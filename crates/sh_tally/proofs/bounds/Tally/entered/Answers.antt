@@ -11,4 +11,4 @@ unfolding index_of
 returns-in-Some c =
     let s = c.args.self.now in
     let numbered : number_of (names s) c.args.name.now ≡ Some c.in-Some.function = subst (λ o. IfSome o (λ f. number_of (names s) c.args.name.now ≡ Some f)) c.in-Some.is c.function.ensures in
-    c.at.ensures s.places.commands (names s) (Entry c.args.name.now) (ap (option_map (function_index s.places.commands end.Entered)) numbered ∙ ap Some (sym c.of_function.ensures))
+    c.at.ensures (names s) (Entry c.args.name.now) (ap (option_map (function_index end.Entered)) numbered ∙ ap Some (sym c.of.ensures))

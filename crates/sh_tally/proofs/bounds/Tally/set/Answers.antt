@@ -15,7 +15,7 @@ returns-in-None c =
     let s = c.args.self.now in
     IfOk-weaker c.leaves.result _ _
     (λ unit adds ws behind same. set_none_added s (walks.around s.script.now c.args.around.now) c.args.number (elements_from s.script.now c.args.elements.now) c.args.left ws (map (text_in s.script.now) c.args.texts.now) c.both.result
-    c.args.equations.now c.leaves.new.equations same (sym c.in-None.is ∙ c.positional_at.ensures.same) (c.both.ensures s.places.commands (names s)) adds)
+    c.args.equations.now c.leaves.new.equations same (sym c.in-None.is ∙ c.positional_at.ensures.same) (c.both.ensures (names s)) adds)
     c.leaves.ensures
 
 pub returns-in_ok-bound-in-Some-3 : goal.returns-in_ok-bound-in-Some-3

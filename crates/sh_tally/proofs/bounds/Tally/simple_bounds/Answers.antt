@@ -18,7 +18,7 @@ returns-in-empty c =
     IfOk-weaker c.leaves.result _ _
     (λ unit adds. nameless_simple s y c.args.number es c.args.left c.args.equations.now c.leaves.new.equations (map (text_in s.table.now.script) c.texts.result.now)
     (λ same. none_mapped (text_in s.table.now.script) c.texts.result.now few) (λ texts. c.texts.ensures ∙ texts.texts)
-    (nameless_added s y c.args.number es c.args.left c.both.result c.args.equations.now c.leaves.new.equations (c.both.ensures s.places.commands (names s)) adds))
+    (nameless_added s y c.args.number es c.args.left c.both.result c.args.equations.now c.leaves.new.equations (c.both.ensures (names s)) adds))
     c.leaves.ensures
 
 pub returns-in-Some : goal.returns-in-Some
@@ -54,5 +54,5 @@ returns-in-None c =
     (λ texts. ap (map (text_in b)) (sym all) ∙ ap (λ z. map (text_in z) xs) (sym texts.script) ∙ c.texts.ensures ∙ texts.texts)
     (λ same. subst (λ o. AddsManner s y c.args.number es c.args.left (manner_of_name (names s) o (behind_name es)) c.args.equations.now c.leaves-in-None.new.equations) none
     (subst (λ m. AddsManner s y c.args.number es c.args.left m c.args.equations.now c.leaves-in-None.new.equations) (sym (unnamed_manner (names s) (behind_name es)))
-    ((neutral_added s y c.args.number es c.args.left (behind_name es) c.args.equations.now c.leaves-in-None.new.equations c.both-in-None.result (c.both-in-None.ensures s.places.commands (names s)) adds).3))))
+    ((neutral_added s y c.args.number es c.args.left (behind_name es) c.args.equations.now c.leaves-in-None.new.equations c.both-in-None.result (c.both-in-None.ensures (names s)) adds).3))))
     c.leaves-in-None.ensures

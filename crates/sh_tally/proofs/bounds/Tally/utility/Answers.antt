@@ -14,7 +14,7 @@ returns-in-Cd c =
     let es = elements_from s.script.now c.args.elements.now in
     IfOk-weaker c.leaves.result _ _
     (λ unit adds ws. subst (λ k. AddsManner s y c.args.number es c.args.left (table.Utility k ws) c.args.equations.now c.leaves.new.equations) (sym c.in-Cd.is)
-    ((neutral_added s y c.args.number es c.args.left ws c.args.equations.now c.leaves.new.equations c.both.result (c.both.ensures s.places.commands (names s)) adds).0))
+    ((neutral_added s y c.args.number es c.args.left ws c.args.equations.now c.leaves.new.equations c.both.result (c.both.ensures (names s)) adds).0))
     c.leaves.ensures
 
 pub returns-in-Command : goal.returns-in-Command
@@ -24,7 +24,7 @@ returns-in-Command c =
     let es = elements_from s.script.now c.args.elements.now in
     IfOk-weaker c.leaves-in-Command.result _ _
     (λ unit adds ws. subst (λ k. AddsManner s y c.args.number es c.args.left (table.Utility k ws) c.args.equations.now c.leaves-in-Command.new.equations) (sym c.in-Command.is)
-    ((neutral_added s y c.args.number es c.args.left ws c.args.equations.now c.leaves-in-Command.new.equations c.both-in-Command.result (c.both-in-Command.ensures s.places.commands (names s)) adds).1))
+    ((neutral_added s y c.args.number es c.args.left ws c.args.equations.now c.leaves-in-Command.new.equations c.both-in-Command.result (c.both-in-Command.ensures (names s)) adds).1))
     c.leaves-in-Command.ensures
 
 pub returns-in-Refused : goal.returns-in-Refused
@@ -34,7 +34,7 @@ returns-in-Refused c =
     let es = elements_from s.script.now c.args.elements.now in
     IfOk-weaker c.leaves-in-Refused.result _ _
     (λ unit adds ws. subst (λ k. AddsManner s y c.args.number es c.args.left (table.Utility k ws) c.args.equations.now c.leaves-in-Refused.new.equations) (sym c.in-Refused.is)
-    ((neutral_added s y c.args.number es c.args.left ws c.args.equations.now c.leaves-in-Refused.new.equations c.both-in-Refused.result (c.both-in-Refused.ensures s.places.commands (names s)) adds).2 _))
+    ((neutral_added s y c.args.number es c.args.left ws c.args.equations.now c.leaves-in-Refused.new.equations c.both-in-Refused.result (c.both-in-Refused.ensures (names s)) adds).2 _))
     c.leaves-in-Refused.ensures
 
 pub returns-in-Utility : goal.returns-in-Utility
@@ -44,7 +44,7 @@ returns-in-Utility c =
     let es = elements_from s.script.now c.args.elements.now in
     IfOk-weaker c.leaves-in-Utility.result _ _
     (λ unit adds ws. subst (λ k. AddsManner s y c.args.number es c.args.left (table.Utility k ws) c.args.equations.now c.leaves-in-Utility.new.equations) (sym c.in-Utility.is)
-    ((neutral_added s y c.args.number es c.args.left ws c.args.equations.now c.leaves-in-Utility.new.equations c.both-in-Utility.result (c.both-in-Utility.ensures s.places.commands (names s)) adds).3))
+    ((neutral_added s y c.args.number es c.args.left ws c.args.equations.now c.leaves-in-Utility.new.equations c.both-in-Utility.result (c.both-in-Utility.ensures (names s)) adds).3))
     c.leaves-in-Utility.ensures
 
 pub returns-in-True : goal.returns-in-True

@@ -5,7 +5,7 @@ use Rattle.sh_tally.proofs.views.After.command.Goals as goal
 
 pub returns : goal.returns
 unfolding index_of if_zero if_nonzero
-returns c = λ commands functions. record {
-  zero = c.at.ensures commands functions (AfterZero c.args.number) (ap Some (sym c.of.ensures));
-  nonzero = c.at-2.ensures commands functions (AfterNonzero c.args.number) (ap Some (sym c.of-2.ensures));
+returns c = λ functions. record {
+  zero = c.at.ensures functions (AfterZero c.args.number) (ap Some (sym c.of.ensures));
+  nonzero = c.at-2.ensures functions (AfterNonzero c.args.number) (ap Some (sym c.of-2.ensures));
 }

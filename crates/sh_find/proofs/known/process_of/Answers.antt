@@ -1,5 +1,0 @@
-use Rattle.sh_domain.specs.Views.{Before, at}
-use Rattle.sh_find.proofs.known.process_of.Goals as goal
-
-pub returns : goal.returns
-returns c = c.started_in.ensures (at (Before c.args.number)) c.before_of-outside.ensures

@@ -1,5 +1,0 @@
-use Rattle.sh_find.proofs.ThereLemmas.{rules_ask_there}
-use Rattle.sh_find.proofs.laws.places.Goals as goal
-
-pub returns : goal.returns
-returns c = rules_ask_there

@@ -1,6 +1,0 @@
-use Rattle.sh_rules.specs.Walks.{setting}
-use Rattle.sh_find.proofs.spot.index_of.Goals as goal
-
-pub returns : goal.returns
-unfolding setting
-returns c = c.function_place.ensures

@@ -1,0 +1,175 @@
+-- Where a command is entered, a certificate that keeps the rules claims no more than is known
+-- there.
+use Rattle.std.proofs.Common.{◌≡◌, ℕ, ◌-◌, Option, Some, None, List, [], ◌∷◌, ◌++◌, nat_lt, Bool, true, false, if◌then◌else◌, sym, ap, ◌∙◌, subst, true≢false, is_some, option_map, unwrap_or, refl, IfSome, ◌+◌}
+use Rattle.sh_tree.specs.declared.tree.Command.{Command, out-Command}
+use Rattle.sh_tree.specs.standard.program.Syntax as p
+use Rattle.sh_tree.specs.standard.program.Syntax.{Text}
+use Rattle.sh_tree.specs.standard.program.Trees as trees
+use Rattle.sh_tree.proofs.ProgramRules as rules
+use Rattle.sh_domain.specs.Filled.{is_stated}
+use Rattle.sh_domain.specs.declared.rule.FlowRule.{FlowRule}
+use Rattle.sh_domain.specs.declared.rule.FlowRule.TheVariants.{F13}
+use Rattle.sh_domain.specs.Entries.{Around, Entered, behind_redirects, command_entered}
+use Rattle.sh_domain.specs.Facts.{Facts, facts}
+use Rattle.sh_domain.specs.Faults.{broken}
+use Rattle.sh_domain.specs.Inclusions.{Each}
+use Rattle.sh_domain.specs.Knowledge.{among}
+use Rattle.sh_domain.specs.Order.{IsWithin, seen_facts}
+use Rattle.sh_domain.specs.Reading.{claim_fits}
+use Rattle.sh_domain.specs.Rules as r
+use Rattle.sh_domain.specs.Rules.{Constraint, bound, bounds, losses}
+use Rattle.sh_domain.specs.Sheets.{Sheet}
+use Rattle.sh_domain.specs.Views as views
+use Rattle.sh_domain.specs.Views.{AfterNonzero, AfterZero, Certificate, ReturnsNonzero, ReturnsZero, Seen, Slot, view_facts}
+use Rattle.sh_domain.proofs.EachLemmas.{each_parts}
+use Rattle.sh_domain.proofs.MonotoneLemmas.{told_none}
+use Rattle.sh_domain.proofs.OrderLemmas.{meet_greatest, within_nowhere, within_test, within_through}
+use Rattle.sh_rules.specs.Meaning.{sees}
+use Rattle.sh_rules.proofs.AboveLemmas.{among_grows}
+use Rattle.sh_domain.specs.Admitted.{IsAdmitted, claims_in, functions_in}
+use Rattle.sh_drafts.specs.declared.place.Part.TheVariants.{Before}
+use Rattle.sh_drafts.specs.declared.place.Place.{Place}
+use Rattle.sh_drafts.specs.declared.spot.Spot.{Spot}
+use Rattle.sh_drafts.specs.declared.subject.Subject.{Subject}
+use Rattle.sh_drafts.specs.Gathered.{fitting, fitting_place}
+use Rattle.sh_drafts.specs.Places.{at, claim_there, place_of}
+use Rattle.sh_drafts.specs.Spots.{place_at}
+use Rattle.sh_drafts.specs.Stated.{is_asked, is_free}
+use Rattle.sh_sweeps.specs.Sweeps.{IsCommand, IsPart, Knows}
+use Rattle.sh_drafts.specs.Ready.{Keeps}
+use Rattle.sh_drafts.specs.Starts.{start_of}
+use Rattle.sh_drafts.proofs.GatherLemmas.{claim_among}
+use Rattle.sh_sweeps.proofs.MetLemmas.{KeepsAsked, keeps_here}
+use Rattle.sh_sweeps.proofs.PlacedLemmas.{own_of}
+use Rattle.sh_drafts.proofs.SheetLemmas.{placed}
+
+-- By the rules of a command
+
+free_before : (stated : Bool) (n : ℕ) → is_free stated (views.Before n) ≡ true
+unfolding is_free is_stated
+free_before true n = refl
+free_before false n = refl
+
+free_slot : (stated : Bool) (slot : Slot) → stated ≡ false → is_free stated slot ≡ true
+unfolding is_free
+free_slot true slot e = absurd (true≢false e)
+free_slot false slot e = refl
+
+module _ (stated : Bool) (d : Facts) (c : Certificate) where
+  abbrev Unbroken : Constraint → Type 0
+  Unbroken k = is_asked stated k ≡ true → broken d c k ≡ []
+
+  entered_within : (slot : Slot) (n : ℕ) (rule : FlowRule) (q : Seen) → is_free stated slot ≡ true → Each Unbroken (bound slot n rule q) → IsWithin (facts (c.claim slot)) (seen_facts d c q)
+  unfolding seen_facts broken Each is_asked
+  entered_within slot n rule [] free all = within_nowhere _
+  entered_within slot n rule (v ∷ q) free all =
+      meet_greatest _ _ _ ((within_test (c.claim slot) (view_facts d c v)).0 (told_none _ n rule (all.0 free))) (entered_within slot n rule q free all.1)
+
+  -- where it is entered, and by its kind
+  parts_of : (functions : List Text) (n offset : ℕ) (kind : p.Kind) (rs : p.Redirects) (by : FlowRule) (y : Around) (q : Seen)
+      → Each Unbroken (bounds functions (record { command = p.command n offset kind rs; rule = by; around = y; seen = q }))
+      → Each Unbroken (bound (views.Before n) n by q) × Each Unbroken (r.kind_bounds functions y n (behind_redirects n rs) kind)
+  unfolding bounds
+  parts_of functions n offset kind rs by y q all =
+      let e : Entered = record { command = p.command n offset kind rs; rule = by; around = y; seen = q } in
+      let before : List Constraint = bound (views.Before n) n by q in
+      let its : List Constraint = r.kind_bounds functions y n (behind_redirects n rs) kind in
+      let redirected : List Constraint = r.redirects_bounds n rs in
+      let counted : List Constraint = r.counted y.drops n (losses functions e) in
+      let last = each_parts Unbroken (before ++ its ++ redirected) counted all in
+      let third = each_parts Unbroken (before ++ its) redirected last.0 in
+      each_parts Unbroken before its third.0
+
+  own_within : (functions : List Text) (n offset : ℕ) (kind : p.Kind) (rs : p.Redirects) (by : FlowRule) (y : Around) (q : Seen)
+      → Each Unbroken (bounds functions (record { command = p.command n offset kind rs; rule = by; around = y; seen = q }))
+      → IsWithin (facts (c.claim (views.Before n))) (seen_facts d c q)
+  own_within functions n offset kind rs by y q none = entered_within (views.Before n) n by q (free_before stated n) (parts_of functions n offset kind rs by y q none).0
+
+  -- where a function returns, after its body
+  body_within : (f : Text) (m offset : ℕ) (kind : p.Kind) (rs : p.Redirects) → stated ≡ false → Each Unbroken (r.body_bounds f (p.command m offset kind rs))
+      → IsWithin (facts (c.claim (ReturnsZero f))) (seen_facts d c (views.at (AfterZero m))) × IsWithin (facts (c.claim (ReturnsNonzero f))) (seen_facts d c (views.at (AfterNonzero m)))
+  unfolding r.body_bounds
+  body_within f m offset kind rs unstated all =
+      let both = each_parts Unbroken (bound (ReturnsZero f) m F13 (views.at (AfterZero m))) (bound (ReturnsNonzero f) m F13 (views.at (AfterNonzero m))) all in
+      (entered_within (ReturnsZero f) m F13 (views.at (AfterZero m)) (free_slot stated (ReturnsZero f) unstated) both.0, entered_within (ReturnsNonzero f) m F13 (views.at (AfterNonzero m)) (free_slot stated (ReturnsNonzero f) unstated) both.1)
+
+  defined_within : (functions : List Text) (y : Around) (n : ℕ) (q : Seen) (f : Text) (m offset : ℕ) (kind : p.Kind) (rs : p.Redirects)
+      → stated ≡ false → Each Unbroken (r.kind_bounds functions y n q (p.Define f (p.command m offset kind rs)))
+      → IsWithin (facts (c.claim (ReturnsZero f))) (seen_facts d c (views.at (AfterZero m))) × IsWithin (facts (c.claim (ReturnsNonzero f))) (seen_facts d c (views.at (AfterNonzero m)))
+  unfolding r.kind_bounds
+  defined_within functions y n q f m offset kind rs unstated all = body_within f m offset kind rs unstated (each_parts Unbroken (bound (AfterZero n) n F13 (views.stepped (views.Define f) (views.at (views.Before n)))) (r.body_bounds f (p.command m offset kind rs)) all).1
+
+-- Of a script that is admitted
+
+module _ (s : Subject) (admitted : IsAdmitted s.script.now s.policy.now s.tree.now s.names.now) (other : Sheet) (keeps : Keeps s other) where
+  abbrev claims : Certificate
+  claims = claims_in s.script.now s.tree.now other
+
+  abbrev functions : List Text
+  functions = functions_in s.script.now s.tree.now
+
+  slot_within : (slot : Slot) (q : Seen) (k : Facts) → IsWithin (facts (claims.claim slot)) (seen_facts (start_of s) claims q) → Knows s q k → IsWithin (facts (claim_there other (place_of functions slot))) k
+  slot_within slot q k within knows =
+      let there : claims.claim slot ≡ claim_there other (place_of functions slot) = placed functions other slot in
+      let named : among s.names.now (facts (claims.claim slot)) ≡ facts (claims.claim slot) =
+      claim_among s.names.now _ (ap (claim_fits s.names.now) there ∙ keeps.fit (place_of functions slot)) in
+      subst (λ a. IsWithin (facts a) k) there
+      (within_through _ (sees s.names.now (start_of s) claims q) _
+      (subst (λ f. IsWithin f (sees s.names.now (start_of s) claims q)) named (among_grows s.names.now _ _ within))
+      (knows other keeps))
+
+  kept_there : (by : FlowRule) (y : Around) (q : Seen) (m : p.Command) → IsPart s (command_entered by y q m) → KeepsAsked s admitted other (record { command = m; rule = by; around = y; seen = q })
+  unfolding Each
+  kept_there by y q m part = (keeps_here s admitted (record { command = m; rule = by; around = y; seen = q } ∷ []) (own_of s by y q m part) other keeps).0
+
+module _ (s : Subject) (admitted : IsAdmitted s.script.now s.policy.now s.tree.now s.names.now) where
+  pub before_within : (by : FlowRule) (y : Around) (k : Facts) (c : Command) (here : IsCommand s by y k c) (other : Sheet) (keeps : Keeps s other)
+      → IsWithin (facts (claim_there other (Some (at Before ((out-Command c).number - 1))))) k
+  unfolding place_of
+  before_within by y k c here other keeps =
+      slot_within s admitted other keeps (views.Before (out-Command c).number) here.seen k
+      (own_within s.stated (start_of s) (claims s admitted other keeps) (functions s admitted other keeps) _ _ _ _ by y here.seen
+      (subst (λ m. KeepsAsked s admitted other (record { command = m; rule = by; around = y; seen = here.seen })) (rules.command_of-out s.script.now c)
+      (kept_there s admitted other keeps by y here.seen (trees.command_of s.script.now c) here.part)))
+      here.knows
+
+  -- after the body of a definition
+  module _ (by : FlowRule) (y : Around) (q : Seen) (n offset : ℕ) (name : Text) (body : Command) (rs : p.Redirects)
+      (part : IsPart s (command_entered by y q (p.command n offset (p.Define name (trees.command_of s.script.now body)) rs))) (unstated : s.stated ≡ false) where
+    returned : (other : Sheet) (keeps : Keeps s other)
+        → IsWithin (facts ((claims s admitted other keeps).claim (ReturnsZero name))) (seen_facts (start_of s) (claims s admitted other keeps) (views.at (AfterZero (out-Command body).number)))
+        × IsWithin (facts ((claims s admitted other keeps).claim (ReturnsNonzero name))) (seen_facts (start_of s) (claims s admitted other keeps) (views.at (AfterNonzero (out-Command body).number)))
+    returned other keeps =
+        let c : Certificate = claims s admitted other keeps in
+        let fs : List Text = functions s admitted other keeps in
+        defined_within s.stated (start_of s) c fs y n (behind_redirects n rs) name _ _ _ _ unstated
+        (subst (λ m. Each (Unbroken s.stated (start_of s) c) (r.kind_bounds fs y n (behind_redirects n rs) (p.Define name m))) (rules.command_of-out s.script.now body)
+        (parts_of s.stated (start_of s) c fs n offset (p.Define name (trees.command_of s.script.now body)) rs by y q (kept_there s admitted other keeps by y q _ part)).1)
+
+    pub returns_zero : (k : Facts) → Knows s (views.at (AfterZero (out-Command body).number)) k → (other : Sheet) → Keeps s other
+        → IsWithin (facts (claim_there other (place_of (functions_in s.script.now s.tree.now) (ReturnsZero name)))) k
+    returns_zero k knows other keeps = slot_within s admitted other keeps (ReturnsZero name) _ k (returned other keeps).0 knows
+
+    pub returns_nonzero : (k : Facts) → Knows s (views.at (AfterNonzero (out-Command body).number)) k → (other : Sheet) → Keeps s other
+        → IsWithin (facts (claim_there other (place_of (functions_in s.script.now s.tree.now) (ReturnsNonzero name)))) k
+    returns_nonzero k knows other keeps = slot_within s admitted other keeps (ReturnsNonzero name) _ k (returned other keeps).1 knows
+
+-- By numbers
+
+pub fits_place : (o : Option Place) (p q : Place) → o ≡ Some p → o ≡ fitting_place q → q ≡ p
+unfolding fitting_place fitting
+fits_place o p q some fits = go (nat_lt q.index 65536) (sym some ∙ fits)
+  where
+    go : (b : Bool) → Some p ≡ option_map (at q.part) (if b then Some q.index else None) → q ≡ p
+    go true e = sym (ap (λ r. unwrap_or r q) e)
+    go false e = absurd (true≢false (ap is_some e))
+
+-- a place that the rules speak of, if it is there
+pub spot_place : (functions : List Text) (slot : Slot) (spot : Spot) → Some (place_at spot) ≡ place_of functions slot → (r : Option Place) → r ≡ fitting_place (place_at spot) → IfSome r (λ p. Some p ≡ place_of functions slot)
+spot_place fs slot spot same None fits = tt
+spot_place fs slot spot same (Some p) fits = ap Some (sym (fits_place (Some p) p (place_at spot) refl fits)) ∙ same
+
+pub there_if : (s : Subject) (functions : List Text) (slot : Slot) (k : Facts) (o : Option Place) → IfSome o (λ p. Some p ≡ place_of functions slot)
+    → ((other : Sheet) → Keeps s other → IsWithin (facts (claim_there other (place_of functions slot))) k) → IfSome o (λ p. (other : Sheet) → Keeps s other → IsWithin (facts (claim_there other (Some p))) k)
+there_if s fs slot k None same w = tt
+there_if s fs slot k (Some p) same w = λ other keeps. subst (λ z. IsWithin (facts (claim_there other z)) k) (sym same) (w other keeps)

@@ -1,0 +1,5 @@
+pub mod Asked
+pub mod Sweeps
+pub mod There
+pub mod Next
+pub mod Sides

@@ -1,0 +1,61 @@
+//! Goes over a loop until what is known at its turns no longer falls (XCU 2.9.4).
+ghost use Rattle.std.specs.Prelude.{IfOk};
+ghost use Rattle.sh_domain.specs.Knowledge.{knowledge_facts};
+ghost use Rattle.sh_rules.specs.Walks as walks;
+ghost use Rattle.sh_sweeps.specs.Sweeps.{IsCommand};
+ghost use Rattle.sh_drafts.specs.Ready.{IsReady, IsSwept};
+
+use crate::own::lower_head;
+use crate::sweep::sweep_inside;
+use sh_domain::{Facts, FlowRule, Knowledge};
+use sh_drafts::{Draft, Subject};
+use sh_rules::{Around, Loops};
+use sh_tree::Command;
+use std::alloc::AllocError;
+
+// What is claimed at each turn of a loop, if the command is one.
+fn head_at(draft: &Draft, number: u32) -> Option<Facts> {
+    draft.certificate.heads.get(&number).copied()
+}
+
+// Whether this is the first pass over a loop in a loop. One round is enough then, since the outer
+// loop takes another turn.
+fn is_passed_once(draft: &Draft, around: &Around<'_>, number: u32) -> bool {
+    matches!(around.loops, Loops::Inside(_, _)) && head_at(draft, number) == Some(Facts::NotReached)
+}
+
+/// Lowers the certificate in a command, and at the turns of a loop, until these no longer fall.
+///
+/// # Errors
+///
+/// If a growth was refused or no place for a row is left.
+#[cycle(sweep)]
+pub fn sweep_rounds(
+    subject: &Subject<'_>,
+    draft: &mut Draft,
+    levels: u32,
+    by: FlowRule,
+    around: &Around<'_>,
+    known: &Knowledge,
+    command: &Command,
+) -> Result<(), AllocError>
+    requires ready { IsReady subject.now draft.old.certificate draft.old.probe.count }
+    requires placed { IsCommand subject.now by (walks.around subject.now.script.now around.now) (knowledge_facts subject.now.names.now known.now) command.now }
+    ensures swept { IfOk result (λ unit. IsSwept subject.now draft.old.certificate draft.new.certificate draft.new.probe.count) }
+{
+    let is_once = is_passed_once(&*draft, around, command.number);
+    lower_head(subject, draft, by, around, known, command)?;
+    for _round in 0..u32::MAX {
+        let head = head_at(&*draft, command.number);
+        sweep_inside(subject, draft, levels, around, command)?;
+        lower_head(subject, draft, by, around, known, command)?;
+        if head == head_at(&*draft, command.number) {
+            return Ok(());
+        }
+        if is_once || draft.is_tired() {
+            draft.waiting.wait(command.number)?;
+            return Ok(());
+        }
+    }
+    Ok(())
+}
