@@ -24,7 +24,7 @@ the seconds of `shset lint` and of `shset check` by it, with their ratio. It end
 its script or is not printed, or if `check` takes more than 1.5 times as long as `lint`. Kinds can be given after the word.
 
 The kind `table` shows for scripts of 1 MB how many milliseconds and megabytes more their call table takes, once they are read, and the
-profile after it. Two kinds of scripts are added that have as many words as fit. It needs the program of crates/table_timer built.
+profile after it. Two kinds of scripts are added that have as many words as fit. It needs the program of crates/show_steps built.
 """
 import os
 import shutil
@@ -54,7 +54,7 @@ MOST_LENGTH = 2
 MOST_CHECK = 1.5
 # Less is not told from what a process itself takes.
 LEAST_SECONDS = 0.01
-TABLE_TIMER = os.path.join(HERE, "..", "crates", "table_timer", "out", "table_timer")
+SHOW_STEPS = os.path.join(HERE, "..", "crates", "show_steps", "out", "show_steps")
 # Other processes disturb so short a time, so it is the least of more runs.
 TABLE_RUNS = 15
 # Nearly as many commands as there may be, of seven words each.
@@ -373,17 +373,17 @@ def measure_certificates(kinds, folder):
 
 
 def measure_table(folder):
-    if not os.access(TABLE_TIMER, os.X_OK):
-        sys.exit("build crates/table_timer first, by `rt run` there")
+    if not os.access(SHOW_STEPS, os.X_OK):
+        sys.exit("build crates/show_steps first, by `rt run` there")
     print(f"{'kind':<14} {'bytes':>9}  {'table ms':>8} {'MB':>6}  {'profile ms':>10} {'MB':>6}")
     path = os.path.join(folder, "script.sh")
     for kind, made in {**KINDS, **WORDIEST}.items():
         with open(path, "w", encoding="ascii") as file:
             file.write(made(SIZES[-1]))
-        columns, before = [f"{kind:<14} {os.path.getsize(path):>9}"], best([TABLE_TIMER, path, "tree"])[1]
+        columns, before = [f"{kind:<14} {os.path.getsize(path):>9}"], best([SHOW_STEPS, path, "tree"])[1]
         for step, width in (("table", 8), ("profile", 10)):
-            said = [subprocess.run([TABLE_TIMER, path, step, "timed"], stdout=subprocess.PIPE, check=True).stdout for _ in range(TABLE_RUNS)]
-            kilobytes = best([TABLE_TIMER, path, step])[1]
+            said = [subprocess.run([SHOW_STEPS, path, step, "timed"], stdout=subprocess.PIPE, check=True).stdout for _ in range(TABLE_RUNS)]
+            kilobytes = best([SHOW_STEPS, path, step])[1]
             columns.append(f"{min(map(int, said)) / 1000:>{width}.1f} {(kilobytes - before) / 1024:>6.1f}")
             before = kilobytes
         print("  ".join(columns))

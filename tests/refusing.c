@@ -3,8 +3,9 @@
  *   REFUSE=K    the Kth growth is refused     REFUSE=K+   the Kth and all after it
  *   READ=one, WRITE=one       each read or write moves one byte
  *   READ=fail K, WRITE=fail K           the Kth fails
- *   READ=interrupt N, WRITE=interrupt N the first N are interrupted
+ *   READ=interrupt N, WRITE=interrupt N the first N are interrupted; with N K, the first N after the Kth
  *   WRITE=none K              the Kth takes no byte
+ *   READ=one fail K, WRITE=one none K   and so on: each moves one byte, as well
  *
  * It writes a byte to the file descriptor MET at the first thing that it does. */
 #define _GNU_SOURCE
@@ -44,10 +45,15 @@ void *realloc(void *old, size_t size) { return is_refused() ? NULL : __libc_real
 static ssize_t most(const char *variable, long call, size_t size) {
     const char *said = getenv(variable);
     if (!said) return size;
+    if (!strncmp(said, "one", 3)) {
+        size = size < 1 ? size : 1;
+        if (!said[3]) return size;
+        said += 4;
+    }
     const char *count = strchr(said, ' ');
-    long wanted = count ? atol(count) : 0;
-    if (!strcmp(said, "one")) return size < 1 ? size : 1;
-    if (!strncmp(said, "interrupt", 9) && call <= wanted) {
+    char *end = NULL;
+    long wanted = count ? strtol(count, &end, 10) : 0, after = end && *end ? atol(end) : 0;
+    if (!strncmp(said, "interrupt", 9) && call > after && call <= after + wanted) {
         meet();
         errno = EINTR;
         return -1;

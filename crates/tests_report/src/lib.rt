@@ -1,16 +1,6 @@
-//! Tests of runs: between ends that fail, over as many names as may be, and what is reported of
-//! places. What is reported of a script or of its certificate is in tests/scripts.
+//! Tests of what is reported of places. What is reported of a script is in tests/scripts, and of
+//! ends that fail in tests/hostile.
 #![tactic(auto)]
 
 #[cfg(test)]
-mod ends;
-#[cfg(test)]
 mod findings;
-#[cfg(test)]
-mod lints;
-#[cfg(test)]
-mod names;
-#[cfg(test)]
-mod prints;
-#[cfg(test)]
-mod told;

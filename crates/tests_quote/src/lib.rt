@@ -1,5 +1,0 @@
-//! Tests of the rules of quoting.
-#![tactic(auto)]
-
-#[cfg(test)]
-mod steady;
