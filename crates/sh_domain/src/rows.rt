@@ -7,6 +7,7 @@ ghost use Rattle.sh_domain.specs.KeptRows.{Stay, bits_of, holds_at};
 use indexmap::IndexSet;
 use sh_rows::{BitRow, Row};
 use std::alloc::{AllocError, Global};
+use std::hash::{BuildHasherDefault, DefaultHasher};
 use std::marker::Model;
 
 /// The place of a row among the rows of a certificate. Equal places are equal sets.
@@ -16,9 +17,11 @@ pub struct RowId {
 }
 
 /// Rows of numbers below a count, each set kept once.
+///
+/// The hash is SipHash: with the default one, whoever writes a certificate can have all rows collide.
 #[derive(Debug, Drop)]
 pub struct Rows {
-    set: IndexSet<BitRow>,
+    set: IndexSet<BitRow, BuildHasherDefault<DefaultHasher>>,
     count: u32,
 }
 
@@ -41,7 +44,7 @@ impl Rows {
         ensures count { result.count ≡ count }
     {
         Rows {
-            set: IndexSet::new(alloc),
+            set: IndexSet::with_hasher(alloc, BuildHasherDefault::new()),
             count,
         }
     }

@@ -9,6 +9,7 @@ ghost use Rattle.sh_table.specs.Sites.{Site};
 use indexmap::IndexSet;
 use sh_tree::Span;
 use std::alloc::{AllocError, Global};
+use std::hash::{BuildHasherDefault, DefaultHasher};
 use std::marker::Model;
 
 /// A function definition: the number of its command, and the function's name.
@@ -18,10 +19,11 @@ pub struct Definition {
     pub name: Span,
 }
 
-/// The names of functions, and for each the numbers of the commands that define it.
+/// The names of functions, and for each the numbers of the commands that define it. The hash is
+/// SipHash, since others pick the names.
 #[derive(Drop)]
 pub struct Functions {
-    names: IndexSet<Vec<u8>>,
+    names: IndexSet<Vec<u8>, BuildHasherDefault<DefaultHasher>>,
     definitions: Vec<Vec<u32>>,
 }
 
@@ -50,7 +52,7 @@ impl Functions {
         ensures { (ss : List Site) → map (found.definition_in script.now) definitions.now ≡ filter_map found.definition_of ss → IfOk result (λ functions. functions ≡ functions_of ss) }
     {
         let mut functions = Functions {
-            names: IndexSet::new(alloc),
+            names: IndexSet::with_hasher(alloc, BuildHasherDefault::new()),
             definitions: Vec::new(alloc),
         };
         for definition in definitions {
