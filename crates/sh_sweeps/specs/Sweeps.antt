@@ -30,6 +30,7 @@ use Rattle.sh_rules.specs.Behind.{Behind}
 use Rattle.sh_rules.specs.Meaning.{sees}
 use Rattle.sh_rules.specs.Settings.{Setting}
 use Rattle.sh_domain.specs.Admitted.{claims_in, functions_in}
+use Rattle.sh_drafts.specs.Ready.{Keeps}
 use Rattle.sh_drafts.specs.declared.subject.Subject.{Subject}
 use Rattle.sh_drafts.specs.Starts.{start_of}
 
@@ -46,13 +47,13 @@ module _ (s : Subject) where
 
   -- What is known
 
-  -- each of those sees no more there
+  -- no sheet that keeps what is required sees more there
   abbrev pub Knows : Seen → Facts → Type 0
-  Knows q k = (other : Sheet) → Keeps other → IsWithin (sees s.names.now (start_of s) (claims_in s.script.now s.tree.now other) q) k
+  Knows q k = (other : Sheet) → Keeps s other → IsWithin (sees s.names.now (start_of s) (claims_in s.script.now s.tree.now other) q) k
 
   -- nor after a list, by its status
   abbrev pub KnowsBehind : After → Behind → Type 0
-  KnowsBehind o b = (other : Sheet) → Keeps other → SeesWithin s.names.now (start_of s) (claims_in s.script.now s.tree.now other) o b
+  KnowsBehind o b = (other : Sheet) → Keeps s other → SeesWithin s.names.now (start_of s) (claims_in s.script.now s.tree.now other) o b
 
   abbrev pub known_behind : code.Behind → Behind
   known_behind o = record { zero = knowledge_facts s.names.now o.zero; nonzero = knowledge_facts s.names.now o.nonzero }
