@@ -1,4 +1,7 @@
-"""Scripts for which a search for the greatest certificate could take longer than in proportion: a family for each way in which it could, by the size of its scripts in bytes."""
+"""Scripts for which a call could take longer than in proportion: a family for each way in which it could, by the size of its scripts in bytes.
+
+bench/measure.py times them all, and tests/families holds each to a limit.
+"""
 
 import random
 
@@ -177,10 +180,14 @@ def trigger_calls(size):
     return text_of([*lines, f"g{count}() {{", *back, "a && g0; }", "unset -f c0", "g0"])
 
 
-def told_by_parts(size):
+def unset_of(size):
     names = " ".join(f"v{n}" for n in range(min(MOST_NAMES - 10, size // 12)))
-    half = (size - len(names)) // 4
-    return f"f() {{ unset {names}; }}\n" + " | ".join(["f"] * max(2, half)) + "\n"
+    return f"f() {{ unset {names}; }}\n"
+
+
+def told_by_parts(size):
+    start = unset_of(size)
+    return start + " | ".join(["f"] * max(2, (size - len(start)) // 4)) + "\n"
 
 
 def rows_in_loop(size):
@@ -265,6 +272,165 @@ def documents(size):
     return text_of(["f() { a && unset v && g; }", "g() { b && f; }", *joined([line] * size, size - 60)])
 
 
+def each(line, most=MOST_NAMES):
+    """A line for each of so many numbers, and again from the first: N is the number, K the next, M another."""
+    return line, most
+
+
+def numbered(line, most, size):
+    texts, number = [], 0
+    while size > 0:
+        text = line.replace("N", str(number % most)).replace("K", str((number + 1) % most)).replace("M", str((7 * number + 3) % most))
+        texts.append(text)
+        size -= len(text)
+        number += 1
+    return "".join(texts)
+
+
+def of(*parts):
+    """Scripts of these parts. A text stands once, and lines share what room is left."""
+    texts = [part for part in parts if isinstance(part, str)]
+
+    def made(size):
+        room = (size - sum(map(len, texts))) // (len(parts) - len(texts))
+        return "".join(part if isinstance(part, str) else numbered(*part, room) for part in parts)
+
+    return made
+
+
+def within(opens, middle, closes, depth):
+    """A line of so many levels."""
+    return opens * depth + middle + closes * depth + "\n"
+
+
+def one_name(size):
+    """Names so long that forty fill a script."""
+    return of(each("a" * (size // 40) + "N=x\n"))(size)
+
+
+def long_ends(size):
+    """A here-document whose lines are the front of its end."""
+    end = "E" * (size // 8)
+    return f"cat <<{end}\n" + (end[1:] + "\n") * 6 + end + "\n"
+
+
+def told_within(size):
+    """Pipelines in parts of pipelines, each of which is told."""
+    return unset_of(size) + of(each(within("{ ", "f | a", "; } | a", 50)))(size // 2)
+
+
+# Families of lines: of reading, of sets of names, of calls, of loops, and of what is told.
+LINED = {
+    "assignments": of(each("vN=x\n")),
+    "assigned and used": of(each('vN=x; echo "$vN"\n')),
+    "uses of parameters": of("echo ", each('"$1"'), "\n"),
+    "findings": of(each("echo $vN\n")),
+    "findings in a loop": of("while a; do\n", each("echo $vN\n"), "done\n"),
+    "findings in a line": of("echo ", each("$vN "), "\n"),
+    "findings at the end": of(each("\n"), each("echo $vN\n")),
+    "long names": one_name,
+    "branches": of(each("if a; then vN=1; else vN=2; fi\n")),
+    "branches in branches": of(each(within("if a; then vN=; ", "a", "; fi", 50))),
+    "conditions": of(each(within("if ", "a", "; then b; fi", 30))),
+    "loops in conditions": of(each(within("while ", "a", "; do b; done", 30))),
+    "long case": of("case x in\n", each("(pN) vN=1 ;;\n"), "esac\n"),
+    "long pattern": of("case x in\n(", each("pN|"), "z) a ;; esac\n"),
+    "case in case": of(each(within("case a in (b) vN=; ", "a", " ;; esac", 50))),
+    "words of patterns": of("case x in\n", each('("$(a)$vN") vN=1 ;;\n'), "esac\n"),
+    "and": of(each("a && "), "b\n"),
+    "pipeline": of(each("a | "), "b\n"),
+    "pipelines in pipelines": of(each(within("{ ", "vN= | a", "; } | a", 30))),
+    "names in pipelines": of(each('a | { vN=; b; } | c "$vN"\n')),
+    "semicolons": of(each("a;")),
+    "short in background": of(each("a&")),
+    "negated": of(each("! a\n")),
+    "operators": of(each("a ; b & c && d || e | f\n")),
+    "subshells": of(each(within("( vN=; ", "a", " )", 50))),
+    "subshells that exit": of(each("( vN=1; exit ) || w=1\n")),
+    "substituted": of(each('x=$(echo "$(aN)")\n', 3000)),
+    "backquotes": of(each("x=`echo a`\n")),
+    "long backquotes": of("x=`", each("a b c\n"), "`\n"),
+    "default in default": of(each('echo "' + "${a:-" * 30 + "x" + "}" * 30 + '"\n')),
+    "assigned by default": of(": ", each('"${vN:=x}" '), "\n"),
+    "default used": of(": ", each('"${vN:=x}" "$vM" '), "\n"),
+    "sums": of(each("echo $((1+2*(3-4)))\n")),
+    "sums in sums": of(each("echo " + "$(( " * 30 + "1" + " ))" * 30 + "\n")),
+    "parentheses": of(each("echo $((" + "(" * 30 + "1" + ")" * 30 + "))\n")),
+    "sums that assign": of(each(": $((vN=1))\n")),
+    "sum of substitutions": of("echo $((", each("$(a) + ${vN-1} + "), "1))\n"),
+    "document a line": of(each("cat <<E\n$x ${y-} $(a)\nE\n")),
+    "documents of a line": of("cat ", each("<<E "), "\n", each("E\n\n")),
+    "document of ends": of("cat <<EE\n", each("E\n"), "EE\n"),
+    "document of long ends": long_ends,
+    "document of continued lines": of("cat <<E\n", each("E\\\n"), "\nE\n"),
+    "document of tabs": of("cat <<-E\n", each("\t"), "x\n", each("\t"), "E\n"),
+    "documents that assign": of("while a; do\n", each("cat <<E\n${vN:=x}\nE\n"), "done\n"),
+    "redirections": of("a ", each(">fN "), "\n"),
+    "redirected groups": of(each('{ a; } >"${vN:=x}"\n')),
+    "one word": of("echo ", each("a"), "\n"),
+    "many words": of("echo ", each("a "), "\n"),
+    "quoted": of(each("echo 'a'\"b\"\\c\n")),
+    "quoted by dollars": of(each("x=$'a\\n'\n")),
+    "dollars": of("echo ", each("$"), "\n"),
+    "tildes": of("x=", each("~:"), "\n"),
+    "brackets": of("echo ", each("["), "\n"),
+    "trimmed": of(each('echo "${vN%%*"${w#?}"}"\n')),
+    "comments": of(each("# comment ${x} $(\n")),
+    "spaces": of(each(" "), "\necho\n"),
+    "empty lines": of(each("\n")),
+    "continued lines": of(each("\\\n"), "echo a\n"),
+    "reserved words": of(each("echo if then else fi do done case esac in\n")),
+    "shifted": of("set -- a b c\n", each('shift; echo "$1"\n')),
+    "operands set": of(each('set -- a b; echo "$2"\n')),
+    "operands twice": of(each('set -- "$@" "$@"; shift; f "$3"\n')),
+    "operands in one": of("set -- ", each('"$@" '), '\necho "$1"\n'),
+    "exported": of("export ", each("vN=1 "), "\n"),
+    "exported in lines": of(each("export vN=1 vK vM\n")),
+    "read only": of(each("readonly vN=1\n")),
+    "read": of("read -r ", each("vN "), "\n"),
+    "options": of(each('while getopts ab: vN; do case $vN in (a) echo "$OPTARG" ;; esac; done\n')),
+    "set by for": of(each('for vN in a b; do echo "$vN"; done\n')),
+    "words of for": of("for i in ", each('"$x" '), '\ndo echo "$i"; done\n'),
+    "for in for": of(each("for vN in a; do " * 30 + "b" + "; done" * 30 + "\n")),
+    "loops in loops": of(each(within("while a; do ", "x=1", "; done", 30))),
+    "loops after names": of(each("vN=\n"), each("while a; do b; done\n")),
+    "loops in loops after names": of(each("vN=\n"), each(within("while a; do ", "b", "; done", 30))),
+    "loops that set": of(each("while a; do vN=; done\n"), each('echo "$vN"\n')),
+    "loops that lose": of(each("until vN=; a; do unset vN; done\n")),
+    "lost in a loop": of(each("vN=x\n"), "while a; do\n", each("unset vN\n"), "done\n"),
+    "left": of("while a; do\n", each("a && break\nvN=1\n"), "done\n"),
+    "next turns": of("while a; do\n", each("a && continue\nvN=1\n"), "done\n"),
+    "returned": of("f() {\n", each("a && return\nvN=1\n"), "}\nf\n"),
+    "returned in loops": of("f() {\n", each("vN=; while a; do b && return; unset vN; done\n"), "}\nf\n"),
+    "exits": of(each("vN=; a || exit 1\n")),
+    "ended by a function": of("die() { echo x; exit 1; }\nwhile a; do\n", each("vN=; a || die\n"), "done\n"),
+    "lost at once": of(each("vN=\n"), "unset ", each("vN "), "\n"),
+    "functions": of(each("fN() { echo x; }\nfN\n")),
+    "functions not called": of(each('fN() { echo "$vN"; }\n', MOST_NAMES // 2)),
+    "functions after names": of(each("vN=\n", MOST_NAMES // 2), each("fN() { a; }; fN\n", MOST_NAMES // 2)),
+    "functions that set": of(each("fN() { vN=; }\n", MOST_NAMES // 2), each('fN; echo "$vN"\n', MOST_NAMES // 2)),
+    "functions that lose": of(each("vN=\n", 1500), each("fN() { unset vN; }\n", 1500), "while a; do\n", each("fN\n", 1500), "done\n"),
+    "functions that call two": of(each("fN() { { fK; }; { fM; }; }\n"), "f0\n"),
+    "functions that call one thrice": of(each("fN() { fK; fK; fK; }\n"), "f0\n"),
+    "functions in groups": of(each("fN() { " + "{ " * 20 + "fK" + "; }" * 20 + "; }\n"), "f0\n"),
+    "calls in substitutions": of(each("fN() { x=$(fK); }\n"), "f0\n"),
+    "calls in pipelines": of(each("fN() { fK | a; }\n"), "f0\n"),
+    "calls in conditions": of(each("fN() { if fK; then vN=; fi; }\n", MOST_NAMES // 2), "f0\n"),
+    "functions in one another": of(each("fN() { gN() { fK; }; gN; }\n", MOST_NAMES // 2), "f0\n"),
+    "functions taken back": of(each("fN() { unset -f fK; a && fK; }\n"), "f0\n"),
+    "functions lost": of(each("fN() { :; }\n"), "while a; do\n", each("unset -f fN\n"), "done\n"),
+    "recursion": of(each("vN=x\n", 1500), each("fN() { fM || fK; unset vN; }\n", 1500), "f0\n"),
+    "defined again": of(each("f() { vN=1; }\nf\n")),
+    "defined again, then called": of(each("f() { unset vN; }\n"), each("f\n")),
+    "defined again between": of(each("f() { unset vN; a || f; }\nf\nvN=\n")),
+    "entries of one body": of(each("vN=\n"), "f() {\n", each('b "$vN"\n'), "}\n", each("unset vN; f\n")),
+    "entries by functions": of(each("vN=\n", 1900), "f() { :; }\n", each("gN() { f; }; unset vN; gN\n", 1900)),
+    "entries of functions": of(each("vN=\n", 1900), "f() { :; }\n", each("gN() { unset vN; f; }\n", 1900), each("gN\n", 1900)),
+    "lost along calls": of(each("fN() { unset vN; fK; }\n", MOST_NAMES // 2), "f0\n"),
+    "told in parts of parts": told_within,
+    "told by callers": of("f0() { unset v; }\n", each("fN() { f0 | f0; }\n"), "f9\n"),
+}
+
 # By its name, how a script is made, and with which options it is read.
 FAMILIES = {
     "shift behind": (shift_behind, ALL_PARAMETERS),
@@ -305,4 +471,60 @@ FAMILIES = {
     "background": (background, ()),
     "substitutions": (nested_substitutions, ()),
     "documents": (documents, ()),
+    **{name: (made, ()) for name, made in LINED.items()},
 }
+
+# How many times as long as a straight script of the same size a family may take.
+MOST_RATIO = 8
+# A certificate is so many times as fast to write or read as a straight script of its length.
+CERTIFICATE_RATIO = 10
+
+
+def rounds_of(text, _lines):
+    """Each loss is a round of its own over the script."""
+    return text.count("unset -f")
+
+
+def calls_of(text, _lines):
+    """Each call takes a round."""
+    return text.count("\ng")
+
+
+def definitions_of(text, _lines):
+    return text.count("f()") / 10
+
+
+def findings_of(text, lines):
+    """A finding takes a quarter of what a line of a straight script does."""
+    return lines / straight(len(text)).count("\n") / 4 / MOST_RATIO
+
+
+# How often MOST_RATIO a family may take. In the first four it is inherent.
+ROUNDS = {
+    "triggers": rounds_of,
+    "trigger calls": rounds_of,
+    "told by parts": findings_of,
+    "told in parts of parts": findings_of,
+    "entries by functions": calls_of,
+    "entries of functions": calls_of,
+    "defined again, then called": definitions_of,
+}
+# Counts of parameters fall up to 16 times at each command until they are solved apart.
+COUNTED = ("shift functions", "shift meets", "shift words in", "shift nested")
+# Ten commands for one of the straight script, or sets as wide as there are functions in each of two looks.
+DENSE = (
+    "background", "callers", "calls in pipelines", "chain", "chain back", "chain of facts", "chain shuffled", "in a group", "losing alone", "losing circle",
+    "semicolons", "short in background", "trigger circle",
+)
+
+
+def limit_of(name, text, lines):
+    """How many times as long as a straight script of the same size a family may take, by its text and the lines of its answer."""
+    if name in ROUNDS:
+        return MOST_RATIO * max(1, ROUNDS[name](text, lines))
+    return MOST_RATIO * (5 if name in COUNTED else 2 if name in DENSE else 1)
+
+
+def certificate_limit(limit, text, certificate):
+    """The same for `cert` and `check`, by the length of the certificate too."""
+    return limit + certificate / len(text) / CERTIFICATE_RATIO

@@ -15,9 +15,9 @@ The kind `kernels` is another: what rows of 4,096 bits do to each other, by `sh_
 many rounds, and how many times as long the former take. It needs the program of crates/rows_timer built, and `cc`.
 
 The kind `families` makes scripts of each family (`families.py`) at three sizes, and a straight script of the same size. It prints the
-seconds and megabytes of `shset lint` and of `shset check`, how many times the straight script's time they are, and how they grew from a
-script half as long. It ends with status 1 if a family takes more than 8 times as long, or grows by more than 2.3. Families can be given
-after the word.
+seconds and megabytes of `shset lint`, `cert`, `check` and `print`, how many times the straight script's they are, and how they grew from a
+script half as long. It ends with status 1 if a family takes more than its limit there, or if its time grows by more than 2.3. Families can be
+given after the word. tests/families holds the same in the gate, at one size.
 
 The kind `certificates` shows for a script of each kind how long its compact certificate is, how many times the script's length that is, and
 the seconds of `shset lint` and of `shset check` by it, with their ratio. It ends with status 1 if a certificate is more than twice as long as
@@ -33,7 +33,7 @@ import subprocess
 import sys
 import tempfile
 
-from families import FAMILIES, straight
+from families import FAMILIES, certificate_limit, limit_of, straight
 
 SIZES = (10_000, 100_000, 1_000_000)
 # The longest scripts of short lines, of pipelines, and of functions or loops, which have nearly as many commands as there may be.
@@ -47,7 +47,6 @@ PROGRAM = os.path.join(HERE, "..", "crates", "shset", "out", "shset")
 TIMER = os.path.join(HERE, "..", "crates", "rows_timer", "out", "rows_timer")
 ROUNDS = "10000000"
 FAMILY_SIZE = 40_000
-MOST_RATIO = 8
 MOST_GROWTH = 2.3
 # How long a certificate may be, in lengths of its script, and its check, in times of `lint`.
 MOST_LENGTH = 2
@@ -309,40 +308,49 @@ def take(words):
     return (float(LIMIT_SECONDS), 0.0) if result is None else (result[0], result[1] / 1024)
 
 
-def shown(name, size, seconds, megabytes, straight, before):
+def shown(name, size, taken, straight_taken, before, limit):
     """A line for a run, and whether it took no more than it may."""
-    ratio = seconds / max(straight, LEAST_SECONDS)
+    (seconds, megabytes), (plain, plain_megabytes) = taken, straight_taken
+    ratio = seconds / max(plain, LEAST_SECONDS)
     grown = seconds / before if before and before > LEAST_SECONDS else None
-    print(f"{name:<22} {size:>9} {seconds:>9.3f} {megabytes:>8.1f} {ratio:>10.1f} {'' if grown is None else f'{grown:.1f}':>7}", flush=True)
-    return ratio <= MOST_RATIO and (grown is None or grown <= MOST_GROWTH)
+    columns = f"{seconds:>9.3f} {megabytes:>8.1f} {ratio:>10.1f} {megabytes / plain_megabytes:>12.2f} {'' if grown is None else f'{grown:.1f}':>7}"
+    print(f"{name:<36} {size:>9} {columns}", flush=True)
+    return ratio <= limit and (grown is None or grown <= MOST_GROWTH)
+
+
+def family_runs(options, path):
+    """The words of each action on a script. It is checked by its certificate, if it has one."""
+    runs = {name: [PROGRAM, name, *options, path] for name in ("lint", "cert")}
+    with open(path + ".cert", "wb") as file:
+        if subprocess.run(runs["cert"], stdout=file, stderr=subprocess.DEVNULL, check=False).returncode == 0:
+            runs["check"] = [PROGRAM, "check", *options, path, path + ".cert"]
+    return {**runs, "print": [PROGRAM, "print", path]}
 
 
 def measure_family(name, folder):
     made, options = FAMILIES[name]
-    path, cert = os.path.join(folder, "script.sh"), os.path.join(folder, "cert")
+    path, beside = os.path.join(folder, "script.sh"), os.path.join(folder, "straight.sh")
     is_good, before = True, {}
     for times in (1, 2, 4):
         text = made(FAMILY_SIZE * times)
-        with open(path, "w", encoding="ascii") as file:
-            file.write(straight(len(text)))
-        plain, _ = take([PROGRAM, "lint", path])
-        with open(path, "w", encoding="ascii") as file:
-            file.write(text)
-        runs = [("lint", [PROGRAM, "lint", *options, path])]
-        with open(cert, "wb") as file:
-            if subprocess.run([PROGRAM, "cert", *options, path], stdout=file, stderr=subprocess.DEVNULL, check=False).returncode == 0:
-                runs.append(("check", [PROGRAM, "check", *options, path, cert]))
-        for action, words in runs:
-            seconds, megabytes = take(words)
-            is_good &= shown(f"{name} {action}", len(text), seconds, megabytes, plain, before.get(action))
-            before[action] = seconds
+        for at, content in ((path, text), (beside, straight(len(text)))):
+            with open(at, "w", encoding="ascii") as file:
+                file.write(content)
+        plain = {action: take(words) for action, words in family_runs((), beside).items()}
+        answer = subprocess.run([PROGRAM, "lint", *options, path], stdout=subprocess.PIPE, check=False).stdout
+        limit = limit_of(name, text, answer.count(b"\n"))
+        for action, words in family_runs(options, path).items():
+            most = certificate_limit(limit, text, os.path.getsize(path + ".cert")) if action in ("cert", "check") else limit
+            taken = take(words)
+            is_good &= shown(f"{name} {action}", len(text), taken, plain[action], before.get(action), most)
+            before[action] = taken[0]
     return is_good
 
 
 def measure_families(names, folder):
     if not set(names) <= set(FAMILIES):
         sys.exit("families: " + ", ".join(FAMILIES))
-    print(f"{'family':<22} {'bytes':>9} {'seconds':>9} {'MB':>8} {'ratio':>10} {'growth':>7}")
+    print(f"{'family':<36} {'bytes':>9} {'seconds':>9} {'MB':>8} {'time ratio':>10} {'memory ratio':>12} {'growth':>7}")
     slow = [name for name in names or FAMILIES if not measure_family(name, folder)]
     sys.exit("too slow: " + ", ".join(slow) if slow else 0)
 
