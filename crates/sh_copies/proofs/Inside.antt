@@ -31,7 +31,7 @@ use Rattle.sh_tree.specs.standard.language.Trees as tree
 use Rattle.sh_tree.specs.standard.language.Trees.{span}
 use Rattle.sh_bodies.specs.Singles.{chained}
 use Rattle.sh_bodies.proofs.SingleLemmas.{of_plain, of_escaped, of_joined, of_single, of_tilde, of_double, of_param, of_value, of_length, of_use, of_remove, of_arith, of_command, of_constant, of_variable, of_expansion, of_parenthesis, of_unary, of_choice, of_assign, of_operands}
-use Rattle.sh_reads.proofs.BeginningLemmas.{first_some}
+use Rattle.sh_tree.proofs.FirstLemmas.{first_some}
 use Rattle.sh_reads.proofs.FrontLemmas.{run_within}
 use Rattle.sh_reads.proofs.TakeLemmas.{is_part, token_takes, part_begins}
 

@@ -13,7 +13,7 @@ use crate::splits::cut;
 pub fn test_lines(text: &[u8]) -> Result<(), u32>
     ensures { field.outcome result ≡ field.outcome (form.read_sheet text.now) }
 {
-    let left = behind_first(text)?;
+    let left = behind_version(text)?;
     let (counts, left) = behind_counts(left)?;
     let left = behind_commands(counts.commands, left)?;
     let next = 3 + counts.commands as u32;
@@ -25,8 +25,8 @@ pub fn test_lines(text: &[u8]) -> Result<(), u32>
     }
 }
 
-/// What follows the first line.
-pub fn behind_first(text: &[u8]) -> Result<&[u8], u32>
+/// What follows the first line, if that names this version of the format.
+pub fn behind_version(text: &[u8]) -> Result<&[u8], u32>
     ensures { field.text_left result ≡ field.left_of (form.read_line form.is_first 1 text.now) }
 {
     let Some((line, left)) = cut(text, b'\n') else {

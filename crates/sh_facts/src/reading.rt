@@ -9,7 +9,7 @@ ghost use Rattle.sh_domain.specs.Reading as fit;
 ghost use Rattle.sh_facts.specs.ReadParts as part;
 
 use crate::forms::{CommandTexts, FactText, FunctionTexts, SetTexts};
-use crate::lines::{behind_counts, behind_first, command_line, function_line, test_lines};
+use crate::lines::{behind_counts, behind_version, command_line, function_line, test_lines};
 use crate::splits::first_piece;
 use indexmap::IndexMap;
 use sh_domain::{
@@ -60,7 +60,7 @@ fn read_lines(
     ensures reads { fit.Answers text.now names.now (fit.loops_of commands.now) functions result }
     ensures sized { IfOk result (λ c. c.rows.count ≡ length names.now) }
 {
-    let Ok(left) = behind_first(text) else {
+    let Ok(left) = behind_version(text) else {
         return Err(Refusal::CertShape);
     };
     let Ok((counts, left)) = behind_counts(left) else {

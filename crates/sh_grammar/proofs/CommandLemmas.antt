@@ -1,6 +1,6 @@
 -- Commands, by the token at their first byte.
 use Rattle.std.proofs.Common.{◌≡◌, ℕ, ◌+◌, ◌<◌, ◌≤◌, Bool, ◌||◌, true, false, List, [], Result, Ok, Err, refl, sym, ap, subst, ◌∙◌, le_refl, le_trans, arith}
-use Rattle.std.proofs.lemmas.Bool.{true≢false, or_left, or_right}
+use Rattle.std.proofs.lemmas.Bool.{true≢false}
 use Rattle.sh_tree.specs.declared.limits.TheConstants.{MAX_COMMANDS}
 use Rattle.sh_tree.specs.declared.token.command.Stage.TheVariants.{First}
 use Rattle.sh_tree.specs.declared.token.command.Lead.{Lead}
@@ -18,7 +18,7 @@ use Rattle.sh_tree.specs.standard.language.Reading.{ReadsElements, ReadsRedirect
 use Rattle.sh_tree.specs.standard.language.States as states
 use Rattle.sh_tree.specs.standard.language.States.{Document, begun, closing}
 use Rattle.sh_tree.specs.standard.language.Trees as tree
-use Rattle.sh_tree.proofs.Inversions.{apart, compound_begins}
+use Rattle.sh_tree.proofs.Inversions.{apart, compound_begins, simple_command_begins, compound_command_begins}
 use Rattle.sh_tree.proofs.Counts.{command_count_more, redirects_count}
 use Rattle.sh_grammar.specs.declared.state.State.{State}
 use Rattle.sh_grammar.specs.States.{here}
@@ -33,16 +33,6 @@ unfolding begins_simple begins_compound is_redirection redirects
 not_simple (lead.Operator op.LeftParenthesis) h = refl
 not_simple (lead.Reserved w) h = refl
 not_simple _ h = absurd (true≢false (sym h))
-
-simple_command_begins : (l : Lead) → begins_simple l ≡ true → begins_command l ≡ true
-unfolding begins_command
-simple_command_begins lead.Definition h = refl
-simple_command_begins l h = or_left (begins_simple l) (begins_compound l) h
-
-compound_command_begins : (l : Lead) → begins_compound l ≡ true → begins_command l ≡ true
-unfolding begins_command
-compound_command_begins lead.Definition h = refl
-compound_command_begins l h = or_right (begins_simple l) (begins_compound l) h
 
 pub command_begins : {limit : ℕ} {b : List ℕ} {body : ℕ → Document} {s v : states.State} {c : Command} → ReadsCommand limit b body s v c → begins_command (lead_here b s) ≡ true
 unfolding begins_command

@@ -17,7 +17,7 @@ use Rattle.sh_tree.specs.standard.language.Reading.{ReadsWord, ReadsElements, Re
 use Rattle.sh_tree.specs.standard.language.States as states
 use Rattle.sh_tree.specs.standard.language.States.{Spot, Document, to, facing, past, waits}
 use Rattle.sh_tree.specs.standard.language.Trees.{span}
-use Rattle.sh_tree.proofs.Inversions.{apart}
+use Rattle.sh_tree.proofs.Inversions.{apart, no_redirection}
 use Rattle.sh_tree.proofs.Counts.{elements_count}
 use Rattle.sh_reads.proofs.BeginningLemmas.{word_goes}
 use Rattle.sh_reads.proofs.GapLemmas.{settled_gap}
@@ -28,12 +28,6 @@ use Rattle.sh_grammar.specs.Readers.{One, Refused, Steps, WordAt, RedirectFrom, 
 use Rattle.sh_grammar.proofs.ReaderLemmas.{refused_by, Behind, nothing_yet, one_more, all_found, refused_behind}
 
 -- What elements begin with
-
-not_redirection : (l : Lead) → begins_simple l ≡ false → is_redirection l ≡ false
-unfolding begins_simple is_redirection
-not_redirection lead.Word h = refl
-not_redirection lead.Assignment h = refl
-not_redirection _ h = h
 
 -- what begins an element and is no word and no assignment
 pub rest_redirects : (l : Lead) → begins_simple l ≡ true → (l ≡ lead.Word → ⊥) → (l ≡ lead.Assignment → ⊥) → is_redirection l ≡ true
@@ -48,7 +42,7 @@ unfolding begins_simple
 no_elements none (r.no_element h) = (refl, refl)
 no_elements none (r.assigned_element h w e) = absurd (apart begins_simple (sym h) refl none)
 no_elements none (r.word_element h w e) = absurd (apart begins_simple (sym h) refl none)
-no_elements {b = b} {g = g} {s = s} none (r.redirect_element h q e) = absurd (true≢false (sym h ∙ not_redirection (lead_of b g s) none))
+no_elements {b = b} {g = g} {s = s} none (r.redirect_element h q e) = absurd (true≢false (sym h ∙ no_redirection (lead_of b g s) none))
 
 -- a word, and the elements after it
 abbrev FirstWord : ℕ → List ℕ → (ℕ → Document) → Stage → states.State → states.State → List Element → Type 0
@@ -87,7 +81,7 @@ FirstRedirect limit b body g s v es =
 first_redirect : {limit : ℕ} {b : List ℕ} {body : ℕ → Document} {g : Stage} {s v : states.State} {es : List Element} → is_redirection (lead_of b g s) ≡ true
     → ReadsElements limit b body g s v es → FirstRedirect limit b body g s v es
 unfolding is_redirection
-first_redirect {b = b} {g = g} {s = s} is (r.no_element h) = absurd (true≢false (sym is ∙ not_redirection (lead_of b g s) h))
+first_redirect {b = b} {g = g} {s = s} is (r.no_element h) = absurd (true≢false (sym is ∙ no_redirection (lead_of b g s) h))
 first_redirect is (r.assigned_element h w e) = absurd (apart is_redirection h is refl)
 first_redirect is (r.word_element h w e) = absurd (apart is_redirection h is refl)
 first_redirect is (r.redirect_element {u = u} {r = q} {es = fs} h read e) = (u, q, fs, refl, read, e)

@@ -1,5 +1,5 @@
 -- `for`, its words and what separates them from `do`.
-use Rattle.std.proofs.Common.{◌≡◌, ℕ, ◌+◌, ◌<◌, ◌≤◌, ◌⊎◌, inl, inr, Bool, true, false, List, [], ◌∷◌, ◌++◌, codes, cond, Option, Some, None, refl, sym, ap, subst, ◌∙◌, arith}
+use Rattle.std.proofs.Common.{◌≡◌, ℕ, ◌+◌, ◌<◌, ◌≤◌, ◌⊎◌, inl, inr, true, false, List, [], ◌∷◌, ◌++◌, codes, cond, Option, Some, None, refl, sym, ap, subst, ◌∙◌, arith}
 use Rattle.std.proofs.lemmas.Bool.{true≢false}
 use Rattle.sh_tree.specs.declared.token.command.Stage.TheVariants.{First, Named}
 use Rattle.sh_tree.specs.declared.token.command.Lead.{Lead}
@@ -18,7 +18,7 @@ use Rattle.sh_tree.specs.standard.language.Reading.{ReadsWord, ReadsWords, Reads
 use Rattle.sh_tree.specs.standard.language.States as states
 use Rattle.sh_tree.specs.standard.language.States.{Spot, Document, facing, past, waits, lower, as_deep}
 use Rattle.sh_tree.specs.standard.language.Trees.{span}
-use Rattle.sh_tree.proofs.Inversions.{no_breaks}
+use Rattle.sh_tree.proofs.Inversions.{no_breaks, word_is}
 use Rattle.sh_tree.proofs.Counts.{words_count, breaks_count, do_count}
 use Rattle.sh_reads.proofs.BeginningLemmas.{word_goes}
 use Rattle.sh_reads.proofs.GapLemmas.{settled_gap}
@@ -29,7 +29,7 @@ use Rattle.sh_grammar.specs.Fors.{WordsFrom, ListedFrom, ForWordsFrom, for_named
 use Rattle.sh_grammar.specs.Modes.{Begins}
 use Rattle.sh_grammar.specs.Phrases.{behind_reserved, entered, DoFrom}
 use Rattle.sh_grammar.specs.Readers.{One, Nothing, Refused, WordAt, CompoundFrom, unread}
-use Rattle.sh_grammar.proofs.RedirectLemmas.{word_is}
+use Rattle.sh_grammar.proofs.ListLemmas.{parted_count}
 use Rattle.sh_grammar.proofs.ReaderLemmas.{refused_by, Behind, nothing_yet, one_more, all_found, refused_behind}
 
 -- Words
@@ -81,13 +81,6 @@ module _ (b : List ℕ) (s v : State) (found : List Word) (h : WordsFound b s fo
       (record { reads = r.no_word {s = here v} none; only = λ limit k ws l. words_end {s = here v} none l })
 
 -- Words and what ends them
-
-parted_count : (b : List ℕ) (s : states.State) → (parted b s).spot.count ≡ s.spot.count
-parted_count b s = go _
-  where
-    go : (t : Bool) → (cond t s (skip b 1 s)).spot.count ≡ s.spot.count
-    go true = refl
-    go false = refl
 
 module _ (b : List ℕ) (s : State) where
   pub listed_refused : (e : Refusal) → Refused b (WordsFrom b s) e → Refused b (ListedFrom b s) e

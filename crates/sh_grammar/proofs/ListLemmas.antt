@@ -232,7 +232,7 @@ rest_count : {limit : ℕ} {b : List ℕ} {body : ℕ → Document} {s v : state
 rest_count (inl e) = let same = ap (λ w. w.spot.count) e.1 in omega arith
 rest_count (inr i) = items_count i.1
 
-parted_count : (b : List ℕ) (s : states.State) → (parted b s).spot.count ≡ s.spot.count
+pub parted_count : (b : List ℕ) (s : states.State) → (parted b s).spot.count ≡ s.spot.count
 parted_count b s = go _
   where
     go : (t : Bool) → (cond t s (skip b 1 s)).spot.count ≡ s.spot.count

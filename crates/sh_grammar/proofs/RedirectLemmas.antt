@@ -3,8 +3,6 @@ use Rattle.std.proofs.Common.{◌≡◌, ℕ, Bool, ◌<◌, ◌≤◌, true, fa
 use Rattle.std.proofs.lemmas.Bool.{true≢false}
 use Rattle.std.proofs.lemmas.List.{map-append}
 use Rattle.sh_tree.specs.declared.limits.TheConstants.{MAX_NESTING}
-use Rattle.sh_tree.specs.declared.token.command.Lead.{Lead}
-use Rattle.sh_tree.specs.declared.token.command.Lead.TheVariants as lead
 use Rattle.sh_tree.specs.declared.token.command.Stage.TheVariants.{Named}
 use Rattle.sh_tree.specs.declared.token.command.Redirection.{Redirection}
 use Rattle.sh_tree.specs.declared.tree.Direction.{Direction}
@@ -24,7 +22,7 @@ use Rattle.sh_tree.specs.standard.language.Trees as tree
 use Rattle.sh_tree.specs.standard.language.HereDocuments as documents
 use Rattle.sh_tree.specs.standard.language.HereDocuments.{is_delimiter, delimiter_of}
 use Rattle.sh_tree.specs.standard.language.Parts.{is_quoted_word}
-use Rattle.sh_tree.proofs.Inversions.{some_one, word_parts, redirects_end, redirects_first}
+use Rattle.sh_tree.proofs.Inversions.{some_one, word_is, word_parts, redirects_end, redirects_first}
 use Rattle.sh_tree.proofs.Counts.{redirects_count}
 use Rattle.sh_reads.proofs.BeginningLemmas.{word_takes}
 use Rattle.sh_reads.proofs.GapLemmas.{blanks_gap}
@@ -122,10 +120,6 @@ document_is {limit = limit} {b = b} {body = body} {s = s} at strip is way (r.her
     )
 
 -- The word after an operator that ends at i
-
-pub word_is : (l : Lead) → is_word l ≡ true → l ≡ lead.Word
-word_is lead.Word h = refl
-word_is _ h = absurd (true≢false (sym h))
 
 module _ (b : List ℕ) (i : ℕ) (s : State) where
   pub target_none : is_word (lead_at b (Named false) (blanks s.joins b i)) ≡ false → Nothing (TargetFrom b i s)

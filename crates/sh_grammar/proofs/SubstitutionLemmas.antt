@@ -17,6 +17,7 @@ use Rattle.sh_tree.specs.standard.language.Reading.{ReadsSequence}
 use Rattle.sh_tree.specs.standard.language.States as states
 use Rattle.sh_tree.specs.standard.language.States.{Spot, document_count, nth, waits, within}
 use Rattle.sh_tree.specs.standard.language.Substitutions.{backquote_end, closes, commands_text, has_kept_backslash, keeps_backslashes, no_backquote}
+use Rattle.sh_words.proofs.EndLemmas.{closes_inside}
 use Rattle.sh_words.proofs.OperationLemmas.{closed_inside}
 use Rattle.sh_bodies.specs.declared.Document.{Document}
 use Rattle.sh_bodies.specs.Fill.{Filled, document_of, fill, fill_script}
@@ -140,14 +141,6 @@ pub answers_earlier : {A : Type 0} (b : List ℕ) (R : Reading A) (m n : ℕ) (r
 answers_earlier b R m n (Ok r) before h = record { one = h.one; from = le_trans before h.from; stands = h.stands }
 answers_earlier b R m n (Err e) before h = h
 
-last_inside : (b : List ℕ) (i : ℕ) → closes Backquote b i ≡ true → i < length b
-unfolding closes is_last_backquote
-last_inside b i h = some (drop i b) h (length-drop i b)
-  where
-    some : (cs : List ℕ) → is_last_backquote cs ≡ true → length cs ≡ length b - i → i < length b
-    some [] last long = absurd (true≢false (sym last))
-    some (c ∷ cs) last long = omega (arith, long)
-
 front_within : (k : ℕ) (b : List ℕ) → length (take k b) ≤ length b
 front_within k b = omega (arith, length-take k b)
 
@@ -223,7 +216,7 @@ module _ (b : List ℕ) (quoted : Bool) (i n : ℕ) (ticks : Ticks) (s : State) 
         only = λ limit k y l. h.one.only limit k y (in_front limit k y l);
       };
       from = h.from;
-      within = lt_of_lt_of_le (last_inside front r.1.at h.one.reads.1) (front_within end b);
+      within = lt_of_lt_of_le (closes_inside front r.1.at h.one.reads.1) (front_within end b);
       few = h.stands.few;
     }
     front_hands (Err e) none h = front_refused e h

@@ -1,5 +1,5 @@
 -- How long the operators are that join pipelines or end clauses.
-use Rattle.std.proofs.Common.{◌≡◌, ℕ, ◌+◌, ◌≤◌, ◌&&◌, Bool, true, false, List, [], ◌∷◌, ◌++◌, length, drop, nat_eq, Option, Some, None, refl, sym, ap, subst, ◌∙◌, ⊎_elim, arith}
+use Rattle.std.proofs.Common.{◌≡◌, ℕ, ◌+◌, ◌≤◌, Bool, true, false, List, [], ◌∷◌, ◌++◌, length, drop, nat_eq, Option, Some, None, refl, sym, ap, subst, ◌∙◌, ⊎_elim, arith}
 use Rattle.std.proofs.lemmas.Bool.{cases_Bool, cond-true, cond-false, true≢false}
 use Rattle.std.proofs.lemmas.Bool.Decides.{nat_tests}
 use Rattle.std.specs.List.{starts_with}
@@ -16,20 +16,12 @@ use Rattle.sh_tree.specs.declared.tree.ClauseEnd.{ClauseEnd}
 use Rattle.sh_tree.specs.declared.tree.Link.{Link}
 use Rattle.sh_tree.specs.standard.language.Bytes.{longest, is_digit, run}
 use Rattle.sh_tree.specs.standard.language.Commands.{long_operators, short_operators, operator_of, operator_lead, whole_operator, opening, other_lead, lead_of, lead_at, link_of, clause_end_of, number_lead, word_lead, first_lead, reserved_lead, name_lead, entry_of, reserved_words, left_out_names, bare_word}
+use Rattle.sh_scan.proofs.ArithmeticLemmas.{begun_within}
 
 -- the texts of a table are as long as `width` says
 abbrev Wide : (Operator → ℕ) → List (List ℕ × Operator) → Type 0
 Wide width [] = Unit {0}
 Wide width (x ∷ xs) = (length x.0 ≡ width x.1) × Wide width xs
-
-prefix_within : (cs ds : List ℕ) → starts_with nat_eq cs ds ≡ true → length ds ≤ length cs
-prefix_within cs [] h = omega arith
-prefix_within [] (d ∷ ds) h = absurd (true≢false (sym h))
-prefix_within (c ∷ cs) (d ∷ ds) h = let rest = prefix_within cs ds (go (nat_eq d c) h) in omega arith
-  where
-    go : (t : Bool) → (t && starts_with nat_eq cs ds) ≡ true → starts_with nat_eq cs ds ≡ true
-    go true k = k
-    go false k = absurd (true≢false (sym k))
 
 -- what a table finds is as long, and is in the text
 longest_wide : (width : Operator → ℕ) (table : List (List ℕ × Operator)) (cs : List ℕ) (o : Operator) (n : ℕ) → Wide width table → longest table cs ≡ Some (o, n)
@@ -42,7 +34,7 @@ longest_wide width (x ∷ xs) cs o n wide h = ⊎_elim
     let same : (x.1, length x.0) ≡ (o, n) = some_pair is in
     let operator : x.1 ≡ o = ap (λ p. p.0) same in
     let count : length x.0 ≡ n = ap (λ p. p.1) same in
-    let within = prefix_within cs x.0 found in
+    let within = begun_within cs x.0 found in
     (sym count ∙ wide.0 ∙ ap width operator, subst (λ k. k ≤ length cs) count within))
     (λ other. longest_wide width xs cs o n wide.1 (sym (cond-false _ _ _ other) ∙ h))
     (cases_Bool (starts_with nat_eq cs x.0))

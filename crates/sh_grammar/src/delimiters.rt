@@ -48,23 +48,12 @@ fn delimiter_of(alloc: Global, script: &[u8], word: &Word) -> Result<Option<Vec<
     unquoted_text(alloc, word, script)
 }
 
-/// Whether the part is quoting.
-#[tactic(auto, unfolding(sh_tree::specs::standard::language::Parts::is_quotation))]
-fn is_quotation(part: &Part) -> bool
-    ensures { result ≡ parts.is_quotation part.now }
-{
-    matches!(
-        part,
-        Part::Escaped(_) | Part::Single(_, _) | Part::Double(_, _)
-    )
-}
-
 /// Whether a part of the word is quoted.
 #[tactic(auto, unfolding(sh_tree::specs::standard::language::Parts::is_quoted_word))]
 fn is_quoted(word: &Word) -> bool
     ensures { result ≡ parts.is_quoted_word word.now }
 {
-    word.parts.as_slice().iter().any(|part| is_quotation(part))
+    word.parts.as_slice().iter().any(|part| part.is_quotation())
 }
 
 /// The here-document with the operator at `at`, with so many levels open. Its body ends with the

@@ -27,10 +27,11 @@ use Rattle.sh_tree.specs.standard.program.Trees as trees
 use Rattle.sh_tree.specs.standard.program.Words.{words_in, operands_in}
 use Rattle.sh_tree.proofs.ProgramRules as rules
 use Rattle.sh_table.specs.Counts.{Parameters, One, Nothing, count_of, is_parameters, word_has_all, gives_field, some_gives_field}
+use Rattle.sh_table.specs.WordTexts.{lone_part}
 use Rattle.sh_operands.specs.declared.counts.Total.{Total}
 use Rattle.sh_operands.specs.Numerals.{capped}
 use Rattle.sh_operands.specs.Looks.{special_is_all, subject_is_all}
-use Rattle.sh_operands.specs.Fields.{action_gives, use_gives, operator_gives, part_gives, lone_part, is_value, is_at, are_at, expands_all, are_all, quotes_all, quotes_at, are_quoted, is_field, no_fields, counted, counted_word, Counting, counting, skipping, word_counted, element_counted}
+use Rattle.sh_operands.specs.Fields.{action_gives, use_gives, operator_gives, part_gives, is_value, is_at, are_at, expands_all, are_all, quotes_all, quotes_at, are_quoted, is_field, no_fields, counted, counted_word, Counting, counting, skipping, word_counted, element_counted}
 
 -- parts that give a field
 

@@ -1,7 +1,7 @@
 -- How many fields words give at least, and in clauses of private functions the pieces of a tree.
 -- POSIX.1-2024, XCU 2.5.2 (special parameters), 2.6.2 (parameter expansion), 2.6.5 (field
 -- splitting).
-use Rattle.std.specs.Prelude.{ℕ, zero, suc, ◌+◌, Bool, true, false, not, ◌&&◌, List, [], ◌∷◌, fold, Option, Some, None}
+use Rattle.std.specs.Prelude.{ℕ, zero, suc, ◌+◌, Bool, true, false, not, ◌&&◌, List, fold, Option, Some, None}
 use Rattle.sh_tree.specs.declared.tree.Action.{Action}
 use Rattle.sh_tree.specs.declared.tree.Action.TheVariants as action
 use Rattle.sh_tree.specs.declared.tree.Element.{Element}
@@ -36,10 +36,6 @@ unfoldable pub part_gives : List ℕ → Part → Bool
 part_gives b x = gives_field (trees.part_of b x)
 
 -- `"$@"` alone
-
-unfoldable pub lone_part : List Part → Option Part
-lone_part (x ∷ []) = Some x
-lone_part _ = None
 
 unfoldable pub is_value : ParameterOperator → Bool
 is_value operator.Value = true

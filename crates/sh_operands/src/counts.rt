@@ -1,13 +1,14 @@
 //! How many fields the operands of a simple command give at least (XCU 2.5.2, 2.6.2, 2.6.5).
 ghost use Rattle.std.specs.Prelude.{◌≡◌, ℕ, List, drop, false, fold};
 ghost use Rattle.std.specs.List.{list_any};
-ghost use Rattle.std.specs.Option.{option_copied};
 ghost use Rattle.sh_tree.specs.Lists.{parts_from, elements_from};
 ghost use Rattle.sh_tree.specs.standard.program.Words.{words_in, operands_in};
 ghost use Rattle.sh_table.specs.Counts.{count_of, is_parameters, some_gives_field};
+ghost use Rattle.sh_table.specs.WordTexts.{lone_part};
 ghost use Rattle.sh_operands.specs.Fields as spec;
 
 use crate::looks::{Look, subject_is_all, word_has};
+use sh_table::lone_part;
 use sh_tree::{Action, Element, ParameterOperator, Part, Word};
 
 /// How many fields words give at least: so many, and as many as there are positional parameters for
@@ -77,16 +78,6 @@ fn some_gives_field(word: &Word, script: &[u8]) -> bool
 
 // `"$@"` alone
 
-#[tactic(auto, unfolding(crate::specs::Fields::lone_part))]
-fn lone_part(parts: &[Part]) -> Option<&Part>
-    ensures { option_copied result ≡ spec.lone_part parts.entry.now }
-{
-    match parts {
-        [part] => Some(part),
-        _ => None,
-    }
-}
-
 #[tactic(auto, unfolding(crate::specs::Fields::is_value))]
 fn is_value(operator: &ParameterOperator) -> bool
     ensures { result ≡ spec.is_value operator.now }
@@ -118,7 +109,7 @@ fn is_at(part: &Part) -> bool
 
 #[tactic(auto, unfolding(crate::specs::Fields::are_at))]
 fn are_at(parts: &[Part]) -> bool
-    ensures { result ≡ spec.are_at (spec.lone_part parts.now) }
+    ensures { result ≡ spec.are_at (lone_part parts.now) }
 {
     match lone_part(parts) {
         Some(part) => is_at(part),
@@ -145,7 +136,7 @@ fn quotes_at(part: &Part) -> bool
 
 #[tactic(auto, unfolding(crate::specs::Fields::are_quoted))]
 fn are_quoted(parts: &[Part]) -> bool
-    ensures { (b : List ℕ) → result ≡ spec.are_quoted b (spec.lone_part parts.now) }
+    ensures { (b : List ℕ) → result ≡ spec.are_quoted b (lone_part parts.now) }
 {
     match lone_part(parts) {
         Some(part) => quotes_at(part),

@@ -1,6 +1,5 @@
 -- Printed commands are read, given that the compound commands among them are.
-use Rattle.std.proofs.Common.{◌≡◌, ℕ, ◌+◌, Bool, true, false, ◌||◌, None, List, [], ◌∷◌, ◌++◌, length, drop, map, codes, refl, sym, ap, subst, ◌∙◌, append_assoc, append-nil}
-use Rattle.std.proofs.Math.Bool.{or-true}
+use Rattle.std.proofs.Common.{◌≡◌, ℕ, ◌+◌, Bool, true, false, None, List, [], ◌∷◌, ◌++◌, length, drop, map, codes, refl, sym, ap, subst, ◌∙◌, append_assoc, append-nil}
 use Rattle.std.specs.List.{flat_map}
 use Rattle.std.proofs.lemmas.Bool.{true≢false}
 use Rattle.sh_tree.specs.declared.tree.Command.{Command}
@@ -18,6 +17,7 @@ use Rattle.sh_tree.specs.standard.language.Reading.{ReadsCommand, is_empty}
 use Rattle.sh_tree.specs.standard.language.States.{Document}
 use Rattle.sh_tree.specs.standard.language.Trees as tree
 use Rattle.sh_tree.specs.standard.language.Trees.{span}
+use Rattle.sh_tree.proofs.Inversions.{simple_command_begins, compound_command_begins}
 use Rattle.sh_print.specs.Bare as bare
 use Rattle.sh_print.specs.Bare.{Text}
 use Rattle.sh_print.specs.Layout.{tabs, items_text, command_text, kind_text, pending, kind_pending, element_text, element_documents, redirect_documents}
@@ -38,16 +38,6 @@ use Rattle.sh_print.proofs.Printable.{PrintableRedirects, PrintableElements, Pri
 use Rattle.sh_copies.proofs.Leads.{closing_lead}
 
 -- What a command begins with
-
-compound_command_begins : (l : Lead) → begins_compound l ≡ true → begins_command l ≡ true
-unfolding begins_command
-compound_command_begins lead.Definition h = refl
-compound_command_begins l h = ap (λ t. begins_simple l || t) h ∙ or-true (begins_simple l)
-
-simple_command_begins : (l : Lead) → begins_simple l ≡ true → begins_command l ≡ true
-unfolding begins_command
-simple_command_begins lead.Definition h = refl
-simple_command_begins l h = ap (λ t. t || begins_compound l) h
 
 pub command_straight : (l : Lead) → begins_command l ≡ true → is_newline_lead l ≡ false
 unfolding begins_command begins_simple begins_compound is_redirection

@@ -11,8 +11,6 @@ use Rattle.sh_tree.specs.declared.tree.Element.TheVariants as element
 use Rattle.sh_tree.specs.declared.tree.Part.{Part}
 use Rattle.sh_tree.specs.declared.tree.Redirect.{Redirect}
 use Rattle.sh_tree.specs.declared.tree.Target.TheVariants as target
-use Rattle.sh_tree.specs.declared.token.command.Lead.{Lead}
-use Rattle.sh_tree.specs.declared.token.command.Lead.TheVariants as lead
 use Rattle.sh_tree.specs.declared.token.command.Stage.{Stage}
 use Rattle.sh_tree.specs.declared.token.command.Stage.TheVariants.{First, Prefixed, Named}
 use Rattle.sh_tree.specs.standard.Tree.{text_of}
@@ -24,6 +22,7 @@ use Rattle.sh_tree.specs.standard.language.Reading.{ReadsWord, ReadsRedirect, Re
 use Rattle.sh_tree.specs.standard.language.States.{Document, facing, to, waits}
 use Rattle.sh_tree.specs.standard.language.Trees as tree
 use Rattle.sh_tree.specs.standard.language.Trees.{span}
+use Rattle.sh_tree.proofs.Inversions.{redirection_is_simple, no_redirection}
 use Rattle.sh_print.specs.Bare as bare
 use Rattle.sh_print.specs.Layout.{opens_text, number_text, redirect_text, element_text, redirect_documents, element_documents}
 use Rattle.sh_print.specs.Trees.{word_of, opened_of, redirect_of, element_of}
@@ -56,18 +55,6 @@ gap_word _ (line {r = r}) h = record { ends = refl; opens_nothing = h }
 
 pub tail_word : (rest : List ℕ) → IsTail rest → IsBehindWord rest
 tail_word rest t = gap_word rest t.gap t.closed
-
-redirection_simple : (l : Lead) → is_redirection l ≡ true → begins_simple l ≡ true
-unfolding begins_simple is_redirection
-redirection_simple lead.Word h = refl
-redirection_simple lead.Assignment h = refl
-redirection_simple l h = h
-
-no_redirection : (l : Lead) → begins_simple l ≡ false → is_redirection l ≡ false
-unfolding begins_simple is_redirection
-no_redirection lead.Word h = refl
-no_redirection lead.Assignment h = refl
-no_redirection l h = h
 
 -- a token is at the start of a text, and it is no `(`
 pub record Starts (cs : List ℕ) : Type 0 where
@@ -413,5 +400,5 @@ module _ (b : List ℕ) where
   elements_begin (p.redirect_element {r = q} {es = es} printable more) i rest tail e = begins q (tail_text es ++ rest) printable e
     where
       begins : {limit k : ℕ} {quiet : Bool} (q : bare.Redirect) (later : List ℕ) → PrintableRedirect limit k quiet q → drop i b ≡ redirect_text q ++ later → begins_simple (lead_at b First i) ≡ true
-      begins q later (p.file {w = w} digits token printable) e = redirection_simple _ ((redirect_begins b i q.number q.opens (w ++ later) digits (e ∙ redirect_whole q later)).leads First)
-      begins q later (p.here_document {w = w} digits token printable delimits printed) e = redirection_simple _ ((redirect_begins b i q.number q.opens (w ++ later) digits (e ∙ redirect_whole q later)).leads First)
+      begins q later (p.file {w = w} digits token printable) e = redirection_is_simple _ ((redirect_begins b i q.number q.opens (w ++ later) digits (e ∙ redirect_whole q later)).leads First)
+      begins q later (p.here_document {w = w} digits token printable delimits printed) e = redirection_is_simple _ ((redirect_begins b i q.number q.opens (w ++ later) digits (e ∙ redirect_whole q later)).leads First)

@@ -1,8 +1,7 @@
 -- The names of assignments, loops and functions in a text.
-use Rattle.std.proofs.Common.{◌≡◌, ℕ, ◌+◌, Bool, true, false, not, ◌&&◌, if◌then◌else◌, List, [], ◌∷◌, length, drop, take, Option, Some, None, refl, sym, ap, subst, ◌∙◌, arith}
+use Rattle.std.proofs.Common.{◌≡◌, ℕ, ◌+◌, Bool, true, false, not, ◌&&◌, if◌then◌else◌, List, [], ◌∷◌, length, drop, take, Option, Some, None, refl, sym, ap, subst, ◌∙◌}
 use Rattle.std.specs.List.{list_all, take_while}
 use Rattle.std.proofs.lemmas.Bool.{true≢false, and_parts, cond-true, cond-false}
-use Rattle.std.proofs.lemmas.Bool.Decides.{nat_tests}
 use Rattle.std.proofs.lemmas.List.Sums.{take_while-cons}
 use Rattle.sh_tree.specs.declared.refusal.Form.{Form}
 use Rattle.sh_tree.specs.declared.refusal.Form.TheVariants as form
@@ -17,10 +16,10 @@ use Rattle.sh_tree.specs.declared.token.command.Stage.TheVariants.{First, Prefix
 use Rattle.sh_tree.specs.standard.Tree.{text_of}
 use Rattle.sh_tree.specs.standard.language.Bytes.{is_digit, is_first, is_name, is_name_byte, is_name_start, name_length, run}
 use Rattle.sh_tree.specs.standard.language.Words.{ends_joined}
-use Rattle.sh_tree.specs.standard.language.Commands.{bare_word, blanks, entry_of, first_lead, is_assignment, is_bare, is_bare_name, is_definition, is_named, is_parenthesis, lead_at, lead_of, left_out_names, name_end, name_lead, number_lead, opening, operator_lead, operator_of, other_lead, reserved_lead, reserved_words, whole_operator, word_lead}
+use Rattle.sh_tree.specs.standard.language.Commands.{bare_word, blanks, entry_of, first_lead, is_assignment, is_bare, is_bare_name, is_definition, is_named, is_parenthesis, lead_at, lead_of, left_out_names, name_end, name_lead, number_lead, opening, operator_lead, operator_of, other_lead, reserved_words, whole_operator, word_lead}
 use Rattle.sh_tree.specs.standard.language.Trees.{span}
 use Rattle.sh_copies.proofs.Declaring.{name_bare}
-use Rattle.sh_reads.proofs.BeginningLemmas.{assignment_begins, bare_begins}
+use Rattle.sh_reads.proofs.BeginningLemmas.{assignment_begins, bare_begins, is_defining, reserved_other, name_other}
 use Rattle.sh_reads.proofs.FrontLemmas.{front_whole, name_run, name_stands, run_taken, run_within, stands_at, stands_text}
 
 -- Leads
@@ -83,27 +82,13 @@ not_named b First i is = refl
 not_named b Prefixed i is = refl
 not_named b (Named d) i is = absurd (true≢false (sym (of_name assigned_of_name b (Named d) i (ap is_assigned is))))
 
-abbrev is_defining : Lead → Bool
-is_defining lead.Definition = true
-is_defining _ = false
-
 defining_of_name : IsOfName is_defining
 defining_of_name = record { operator = λ o. refl; left_out = λ x. refl; end = refl; newline = refl; backquote = refl; number = refl }
 
-reserved_none : (cs : List ℕ) (r : Reserved) → is_defining (reserved_lead cs r) ≡ false
-unfolding reserved_lead
-reserved_none cs word.Bang = grind (arith, nat_tests)
-reserved_none cs r = refl
-
-name_none : (x : Option Form) → is_defining (name_lead x) ≡ false
-unfolding name_lead
-name_none (Some x) = refl
-name_none None = refl
-
 first_defines : (b : List ℕ) (i : ℕ) (w : List ℕ) (r : Option Reserved) → is_defining (first_lead b i w r) ≡ true → (is_name w ≡ true) × (r ≡ None)
 unfolding first_lead is_definition
-first_defines b i w (Some r) h = absurd (true≢false (sym h ∙ reserved_none (drop i b) r))
-first_defines b i w None h = (go (is_name w) (is_first is_parenthesis (drop (blanks false b (i + length w)) b)) (name_lead (entry_of left_out_names w)) h (name_none (entry_of left_out_names w)), refl)
+first_defines b i w (Some r) h = absurd (true≢false (sym h ∙ reserved_other (drop i b) r))
+first_defines b i w None h = (go (is_name w) (is_first is_parenthesis (drop (blanks false b (i + length w)) b)) (name_lead (entry_of left_out_names w)) h (name_other (entry_of left_out_names w)), refl)
   where
     go : (t u : Bool) (l : Lead) → is_defining (if t && u then lead.Definition else l) ≡ true → is_defining l ≡ false → t ≡ true
     go true u l k n = refl

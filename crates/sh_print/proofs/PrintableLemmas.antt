@@ -36,6 +36,7 @@ use Rattle.sh_tree.specs.standard.language.Reading.{HasNoNul, ReadsTo, ReadsScri
 use Rattle.sh_tree.specs.standard.language.States.{Spot, Document, State, as_deep, document_count, facing, lower, next, nth, past, to, waits}
 use Rattle.sh_tree.specs.standard.language.Trees as tree
 use Rattle.sh_tree.specs.standard.language.Trees.{span}
+use Rattle.sh_tree.proofs.Inversions.{word_is}
 use Rattle.sh_reads.proofs.GapLemmas.{blanks_gap}
 use Rattle.sh_reads.proofs.SettledLemmas.{IsSettled, breaks_settled, settled_next, settled_past, settled_parted, redirect_settled, and_or_settled}
 use Rattle.sh_copies.specs.Copied.{Role, Field, Unsplit, Value, WordsAreCopied, TokenOf, context_of, form_of}
@@ -70,18 +71,6 @@ stage_given {b = b} {s = s} g reads =
     ap Named (declares_read (stage_kept (λ x. x.site) site.Word b g s.at (λ n. refl) (λ n. refl)) (stage_kept (λ x. x.strip) false b g s.at (λ n. refl) (λ n. refl)) reads)
 
 -- Leads
-
-is_a_word : (l : Lead) → is_word l ≡ true → l ≡ lead.Word
-is_a_word lead.Word h = refl
-is_a_word lead.End h = absurd (true≢false (sym h))
-is_a_word lead.Newline h = absurd (true≢false (sym h))
-is_a_word (lead.Operator o) h = absurd (true≢false (sym h))
-is_a_word (lead.Reserved o) h = absurd (true≢false (sym h))
-is_a_word lead.Definition h = absurd (true≢false (sym h))
-is_a_word lead.Assignment h = absurd (true≢false (sym h))
-is_a_word lead.Number h = absurd (true≢false (sym h))
-is_a_word lead.Backquote h = absurd (true≢false (sym h))
-is_a_word (lead.LeftOut x) h = absurd (true≢false (sym h))
 
 -- no compound command begins as a simple one does
 not_simple : (l : Lead) → begins_compound l ≡ true → begins_simple l ≡ true → ⊥
@@ -151,7 +140,7 @@ module _ (limit : ℕ) (b : List ℕ) (no_nul : HasNoNul b) (copies : WordsAreCo
         λ h. loud (or_none quiet h),
         λ f. (
           f,
-          p.file (redirection_numbered b s.spot.at at found) (token_facing s1 Unsplit (Named false) (settled_next b at.end s) (is_a_word _ is) reads) (word_facing s1 Unsplit depth quiet k loud reads),
+          p.file (redirection_numbered b s.spot.at at found) (token_facing s1 Unsplit (Named false) (settled_next b at.end s) (word_is _ is) reads) (word_facing s1 Unsplit depth quiet k loud reads),
         ),
       )
   redirect_given depth quiet k loud (r.here_document {s = s} {u = u} {r = at} {strip = strip} {w = w} found strips is reads delimits) =
@@ -163,7 +152,7 @@ module _ (limit : ℕ) (b : List ℕ) (no_nul : HasNoNul b) (copies : WordsAreCo
             let last = source.last_fits limit b no_nul copies body s mark f in
             let document = last.1 (copies.marks limit s.spot.depth strip b (facing s1) u w reads delimits) in (
               last.0,
-              p.here_document (redirection_numbered b s.spot.at at found) (token_facing s1 Unsplit (Named false) (settled_next b at.end s) (is_a_word _ is) reads) (word_facing s1 Unsplit depth quiet k loud reads)
+              p.here_document (redirection_numbered b s.spot.at at found) (token_facing s1 Unsplit (Named false) (settled_next b at.end s) (word_is _ is) reads) (word_facing s1 Unsplit depth quiet k loud reads)
                   delimits
                   (subst (λ n. p.PrintableDocument limit (record { strip = strip; quoted = is_quoted_word w; delimiter = delimiter_of b w; depth = n }) (source.document_of limit b no_nul copies (body (document_count s)))) k.0 document),
             ),
@@ -219,20 +208,20 @@ module _ (limit : ℕ) (b : List ℕ) (no_nul : HasNoNul b) (copies : WordsAreCo
         rest.0,
         λ f.
             let e = rest.1 f in
-            (e.0, p.more_words (token_facing s (Field (Named false)) (Named false) here (is_a_word _ is) reads) (word_loud s (Field (Named false)) depth k reads) e.1),
+            (e.0, p.more_words (token_facing s (Field (Named false)) (Named false) here (word_is _ is) reads) (word_loud s (Field (Named false)) depth k reads) e.1),
       )
 
   patterns_given : {s u : State} {ws : List Word} (depth : ℕ) → Level depth s.spot → IsSettled b s.spot → ReadsPatterns limit b s u ws
       → Gives depth s u (PrintablePatterns limit depth (map (word_of b) ws))
   unfolding context_of
   patterns_given depth k here (r.last_pattern {s = s} is reads closes) =
-      (k, λ f. (f, p.last_pattern (token_facing s Unsplit (Named false) here (is_a_word _ is) reads) (word_loud s Unsplit depth k reads)))
+      (k, λ f. (f, p.last_pattern (token_facing s Unsplit (Named false) here (word_is _ is) reads) (word_loud s Unsplit depth k reads)))
   patterns_given depth k here (r.more_patterns {s = s} {u = u} is reads bar more) =
       let rest = patterns_given depth k (settled_next b _ (past b u s)) more in (
         rest.0,
         λ f.
             let e = rest.1 f in
-            (e.0, p.more_patterns (token_facing s Unsplit (Named false) here (is_a_word _ is) reads) (word_loud s Unsplit depth k reads) e.1),
+            (e.0, p.more_patterns (token_facing s Unsplit (Named false) here (word_is _ is) reads) (word_loud s Unsplit depth k reads) e.1),
       )
 
   breaks_given : {s u : State} (depth : ℕ) → r.ReadsBreaks limit b s u → Level depth s.spot → Level depth u.spot × (Fits u → Fits s)
@@ -372,7 +361,7 @@ module _ (limit : ℕ) (b : List ℕ) (no_nul : HasNoNul b) (copies : WordsAreCo
       → Gives depth x v ((TokenOf (Named false) (text_of b w.span) × PrintableWord limit depth false Unsplit (form_of b w) (text_of b w.span)) × PrintableClauses limit depth (clauses_from b cs))
   unfolding context_of
   case_given cs depth s x v k here l is reads clauses =
-      map_given depth x v (λ e. ((token_facing s Unsplit (Named false) here (is_a_word _ is) reads, word_loud s Unsplit depth k reads), e)) (clauses l)
+      map_given depth x v (λ e. ((token_facing s Unsplit (Named false) here (word_is _ is) reads, word_loud s Unsplit depth k reads), e)) (clauses l)
 
   mutual
     command_given : {s u : State} {c : Command} (depth : ℕ) → Level depth s.spot → IsSettled b s.spot → ReadsCommand limit b body s u c → Gives depth s u (PrintableCommand limit depth (command_of b c))

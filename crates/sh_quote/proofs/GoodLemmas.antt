@@ -29,7 +29,7 @@ use Rattle.sh_quote.specs.Invariant.{watched, is_good, AllGood, WordGood, WordsG
 
 -- Lists
 
-nil_parts : {A : Type 0} (xs ys : List A) → xs ++ ys ≡ [] → (xs ≡ []) × (ys ≡ [])
+pub nil_parts : {A : Type 0} (xs ys : List A) → xs ++ ys ≡ [] → (xs ≡ []) × (ys ≡ [])
 nil_parts [] ys h = (refl, h)
 nil_parts (x ∷ xs) ys h = cc
 

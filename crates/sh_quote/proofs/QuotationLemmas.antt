@@ -17,17 +17,19 @@ use Rattle.sh_tree.specs.declared.tree.Subject.{Subject}
 use Rattle.sh_tree.specs.declared.tree.Subject.TheVariants as subject
 use Rattle.sh_tree.specs.declared.tree.Word.{Word}
 use Rattle.sh_tree.specs.Lists.{parts_from}
+use Rattle.sh_tree.specs.standard.language.Parts.{is_quotation}
+use Rattle.sh_tree.specs.standard.language.Words.{is_alternative}
 use Rattle.sh_tree.specs.standard.program.Syntax as p
 use Rattle.sh_tree.specs.standard.program.Trees as trees
 use Rattle.sh_tree.proofs.ProgramRules as rules
 use Rattle.sh_table.specs.Quoting as quoting
 use Rattle.sh_quote.specs.Places as places
-use Rattle.sh_quote.specs.Quotations.{is_quote, are_some_quotes, is_alternative, quoted_alternative, subject_is_numeric, number_given, told, part_told}
+use Rattle.sh_quote.specs.Quotations.{are_some_quotes, quoted_alternative, subject_is_numeric, number_given, told, part_told}
 
 -- quotations
 
-quote_of : (b : List ℕ) (x : Part) → quoting.is_quotation (trees.part_of b x) ≡ is_quote x
-unfolding quoting.is_quotation trees.part_of is_quote
+quote_of : (b : List ℕ) (x : Part) → quoting.is_quotation (trees.part_of b x) ≡ is_quotation x
+unfolding quoting.is_quotation trees.part_of is_quotation
 quote_of b (part.Plain s) = refl
 quote_of b (part.Escaped s) = refl
 quote_of b (part.Single style s) = refl
@@ -38,48 +40,10 @@ quote_of b (part.Command style s t) = refl
 quote_of b (part.Tilde s) = refl
 quote_of b (part.Joined s) = refl
 
-pub quotes_listed : (b : List ℕ) (ps : List Part) → quoting.are_quotations (parts_from b ps) ≡ list_all is_quote ps
+pub quotes_listed : (b : List ℕ) (ps : List Part) → quoting.are_quotations (parts_from b ps) ≡ list_all is_quotation ps
 unfolding quoting.are_quotations parts_from
 quotes_listed b [] = refl
 quotes_listed b (x ∷ xs) = ap₂ (λ t u. t && u) (quote_of b x) (quotes_listed b xs)
-
-pub is_quote-Plain : (s : Span) → is_quote (part.Plain s) ≡ false
-unfolding is_quote
-is_quote-Plain s = refl
-
-pub is_quote-Escaped : (s : Span) → is_quote (part.Escaped s) ≡ true
-unfolding is_quote
-is_quote-Escaped s = refl
-
-pub is_quote-Single : (style : SingleStyle) (s : Span) → is_quote (part.Single style s) ≡ true
-unfolding is_quote
-is_quote-Single style s = refl
-
-pub is_quote-Double : (s : Span) (ps : List Part) → is_quote (part.Double s ps) ≡ true
-unfolding is_quote
-is_quote-Double s ps = refl
-
-pub is_quote-Param : (x : Param) → is_quote (part.Param x) ≡ false
-unfolding is_quote
-is_quote-Param x = refl
-
-pub is_quote-Arith : (s : Span) (e : Expr) → is_quote (part.Arith s e) ≡ false
-unfolding is_quote
-is_quote-Arith s e = refl
-
-pub is_quote-Command : (style : CommandStyle) (s : Span) (t : Script) → is_quote (part.Command style s t) ≡ false
-unfolding is_quote
-is_quote-Command style s t = refl
-
-pub is_quote-Tilde : (s : Span) → is_quote (part.Tilde s) ≡ false
-unfolding is_quote
-is_quote-Tilde s = refl
-
-pub is_quote-Joined : (s : Span) → is_quote (part.Joined s) ≡ false
-unfolding is_quote
-is_quote-Joined s = refl
-
-pub ruleset quotes = (is_quote-Plain, is_quote-Escaped, is_quote-Single, is_quote-Double, is_quote-Param, is_quote-Arith, is_quote-Command, is_quote-Tilde, is_quote-Joined)
 
 -- alternatives
 
@@ -89,7 +53,7 @@ some_quotes b colon [] = refl
 some_quotes b colon (x ∷ xs) = quotes_listed b (x ∷ xs)
 
 by_action : (b : List ℕ) (a : Action) (colon : Bool) (ps : List Part) → quoting.is_quoted_alternative (p.Use a colon (parts_from b ps)) ≡ (is_alternative a && are_some_quotes ps)
-unfolding quoting.is_quoted_alternative is_alternative
+unfolding quoting.is_quoted_alternative
 by_action b action.Alternative colon ps = some_quotes b colon ps
 by_action b action.Default colon ps = refl
 by_action b action.Assign colon ps = refl

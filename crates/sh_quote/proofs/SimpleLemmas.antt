@@ -37,6 +37,7 @@ use Rattle.sh_quote.specs.Places.{told_at, part_places, parts_places, word_place
 use Rattle.sh_quote.specs.Steady.{is_static, steady_assignment, steady_text, steady_declared, steady_operand, steady_getopts}
 use Rattle.sh_quote.specs.Invariant.{steady_field, watched, WordGood, RedirectsGood, ValueGood, ValuesGood, SplitGood, OperandsGood, SteadyGetopts, Steady, FieldsGood, LeftGood, CommandGood, SavedGood, ShownGood, WorkGood, AllWorkGood, EnvironmentGood}
 use Rattle.sh_quote.proofs.EffectLemmas.{set_good, showing_good, hiding_good, restored_good, had_fits, definitions_good, unset_good, read_good, option_good, directory_good, StateGood, expands, EffectGood, goes_good, ends_good, expanded_good, either_good, unless_good}
+use Rattle.sh_quote.proofs.GoodLemmas.{nil_parts}
 use Rattle.sh_quote.proofs.SteadyLemmas.{assignment_steady, text_steady, declared_steady}
 
 -- A word whose places are none
@@ -46,14 +47,10 @@ unfolding told_at
 told_none true at h = refl
 told_none false at h = cc
 
-nil_first : {A : Type 0} (xs ys : List A) → xs ++ ys ≡ [] → (xs ≡ []) × (ys ≡ [])
-nil_first [] ys h = (refl, h)
-nil_first (x ∷ xs) ys h = cc
-
 places_still : (w : p.Word) → parts_places false w ≡ [] → are_still w ≡ true
 unfolding parts_places part_places are_still is_still_part
 places_still p.no_parts h = refl
-places_still (p.more_parts x w) h = let q = nil_first (part_places false x) (parts_places false w) h in and_from _ _ (part x q.0) (places_still w q.1)
+places_still (p.more_parts x w) h = let q = nil_parts (part_places false x) (parts_places false w) h in and_from _ _ (part x q.0) (places_still w q.1)
   where
     part : (y : p.Part) → part_places false y ≡ [] → is_still_part y ≡ true
     part (p.Expansion at x operator) k = told_none _ at k
@@ -69,7 +66,7 @@ places_still (p.more_parts x w) h = let q = nil_first (part_places false x) (par
 places_whole : (w : p.Word) → parts_places true w ≡ [] → are_whole w ≡ true
 unfolding parts_places part_places are_whole is_whole
 places_whole p.no_parts h = refl
-places_whole (p.more_parts x w) h = let q = nil_first (part_places true x) (parts_places true w) h in and_from _ _ (part x q.0) (places_whole w q.1)
+places_whole (p.more_parts x w) h = let q = nil_parts (part_places true x) (parts_places true w) h in and_from _ _ (part x q.0) (places_whole w q.1)
   where
     part : (y : p.Part) → part_places true y ≡ [] → is_whole y ≡ true
     part (p.Expansion at x operator) k = told_none _ at k

@@ -1,6 +1,6 @@
 -- Let a program keep the rules of quoting. In no run of it does a step split a value, unless it
 -- meets a parameter that is not set.
-use Rattle.std.proofs.Common.{◌≡◌, ℕ, Bool, true, false, ◌||◌, if◌then◌else◌, Option, Some, None, unwrap_or, option_map, List, [], ◌∷◌, ◌++◌, flat_map, refl, sym, ◌∙◌}
+use Rattle.std.proofs.Common.{◌≡◌, ℕ, Bool, true, false, ◌||◌, if◌then◌else◌, Option, Some, None, unwrap_or, option_map, List, [], ◌∷◌, flat_map, refl, sym, ◌∙◌}
 use Rattle.std.specs.List.{list_all}
 use Rattle.std.proofs.lemmas.Bool.{and_parts, and_from}
 use Rattle.std.proofs.lemmas.Option.{none-some}
@@ -19,21 +19,17 @@ use Rattle.sh_quote.specs.Steady.{steady_command, steady}
 use Rattle.sh_quote.specs.Theorem.{QuotingSuffices}
 use Rattle.sh_quote.specs.Invariant.{is_good, AllGood, ItemsGood, WorkGood, AllWorkGood, EnvironmentGood}
 use Rattle.sh_quote.proofs.EffectLemmas.{EffectGood, ends_good}
-use Rattle.sh_quote.proofs.GoodLemmas.{good_from}
+use Rattle.sh_quote.proofs.GoodLemmas.{good_from, nil_parts}
 use Rattle.sh_quote.proofs.StepLemmas.{act_on_good}
 
 -- The commands of the program
 
 module _ (numbers : Bool) where
-  nil_first : {A : Type 0} (xs ys : List A) → xs ++ ys ≡ [] → (xs ≡ []) × (ys ≡ [])
-  nil_first [] ys h = (refl, h)
-  nil_first (x ∷ xs) ys h = cc
-
   all_good : (ls : List Located) → flat_map (λ l. flat_map (word_places numbers) (split_words l.command)) ls ≡ [] → (numbers ≡ true → list_all (λ l. steady_command l.command) ls ≡ true)
       → list_all (λ l. command_gives_fields l.command) ls ≡ true → list_all is_free ls ≡ true → AllGood numbers ls
   all_good [] q s c f = refl
   all_good (l ∷ ls) q s c f =
-      let a = nil_first (flat_map (word_places numbers) (split_words l.command)) (flat_map (λ l. flat_map (word_places numbers) (split_words l.command)) ls) q in
+      let a = nil_parts (flat_map (word_places numbers) (split_words l.command)) (flat_map (λ l. flat_map (word_places numbers) (split_words l.command)) ls) q in
       let b = λ (n : numbers ≡ true). and_parts (steady_command l.command) (list_all (λ l. steady_command l.command) ls) (s n) in
       let d = and_parts (command_gives_fields l.command) (list_all (λ l. command_gives_fields l.command) ls) c in
       let g = and_parts (is_free l) (list_all is_free ls) f in

@@ -10,6 +10,7 @@ use Rattle.sh_tree.specs.declared.tree.Word.{Word}
 use Rattle.sh_tree.specs.standard.Tree.{text_of}
 use Rattle.sh_tree.specs.standard.language.Bytes.{name_length}
 use Rattle.sh_tree.specs.standard.language.Commands.{is_assignment}
+use Rattle.sh_tree.specs.standard.language.Parts.{is_quotation}
 use Rattle.sh_tree.specs.Lists.{parts_from}
 use Rattle.sh_tree.specs.standard.program.Syntax.{Text}
 use Rattle.sh_tree.specs.standard.program.Words.{before_word}
@@ -19,7 +20,6 @@ use Rattle.sh_table.specs.declared.kind.Kind.{Kind}
 use Rattle.sh_table.specs.declared.kind.Kind.TheVariants as kind
 use Rattle.sh_domain.specs.Sights.{read_operands}
 use Rattle.sh_quote.specs.Steady.{steady_value, steady_text}
-use Rattle.sh_quote.specs.Quotations.{is_quote}
 
 -- `export` and `readonly`
 
@@ -45,7 +45,7 @@ names_other (Some t) = not (is_ifs t)
 
 unfoldable pub is_one_field : List ℕ → Word → Static → Bool
 is_one_field b w (Some t) = not (is_ifs t)
-is_one_field b w None = list_all is_quote w.parts && not (word_mentions is_at (parts_from b w.parts))
+is_one_field b w None = list_all is_quotation w.parts && not (word_mentions is_at (parts_from b w.parts))
 
 unfoldable pub first_options : List ℕ → Word → List Static → Bool
 first_options b w [] = true

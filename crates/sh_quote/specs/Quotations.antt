@@ -1,33 +1,22 @@
 -- Clauses of private functions: what a part of a word is to field splitting.
 -- POSIX.1-2024, XCU 2.2 (quoting), 2.6.5 (field splitting).
-use Rattle.std.specs.Prelude.{ℕ, Bool, true, false, List, [], ◌∷◌, Option, Some, None}
+use Rattle.std.specs.Prelude.{ℕ, Bool, false, List, [], ◌∷◌, Option, Some, None}
 use Rattle.std.specs.List.{list_all}
 use Rattle.sh_tree.specs.declared.place.Place.{Place}
-use Rattle.sh_tree.specs.declared.tree.Action.{Action}
-use Rattle.sh_tree.specs.declared.tree.Action.TheVariants as action
 use Rattle.sh_tree.specs.declared.tree.ParameterOperator.{ParameterOperator}
-use Rattle.sh_tree.specs.declared.tree.Part.{Part, Escaped, Double'}
+use Rattle.sh_tree.specs.declared.tree.Part.{Part}
 use Rattle.sh_tree.specs.declared.tree.Part.TheVariants as part
 use Rattle.sh_tree.specs.declared.tree.Special.{Special}
 use Rattle.sh_tree.specs.declared.tree.Subject.{Subject}
 use Rattle.sh_tree.specs.declared.tree.Subject.TheVariants as subject
+use Rattle.sh_tree.specs.standard.language.Parts.{is_quotation}
 use Rattle.sh_tree.specs.standard.program.Trees as trees
 use Rattle.sh_table.specs.Quoting as quoting
 use Rattle.sh_quote.specs.Places as places
 
-unfoldable pub is_quote : Part → Bool
-is_quote (Escaped s) = true
-is_quote (part.Single style s) = true
-is_quote (Double' s shape row) = true
-is_quote _ = false
-
 unfoldable pub are_some_quotes : List Part → Bool
 are_some_quotes [] = false
-are_some_quotes (x ∷ xs) = list_all is_quote (x ∷ xs)
-
-unfoldable pub is_alternative : Action → Bool
-is_alternative action.Alternative = true
-is_alternative _ = false
+are_some_quotes (x ∷ xs) = list_all is_quotation (x ∷ xs)
 
 unfoldable pub quoted_alternative : List ℕ → ParameterOperator → Bool
 quoted_alternative b o = quoting.is_quoted_alternative (trees.operator_of b o)

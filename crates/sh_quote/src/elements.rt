@@ -1,23 +1,11 @@
 //! The words of a simple command, one after another.
 ghost use Rattle.std.specs.Prelude.{◌≡◌, option_map};
-ghost use Rattle.std.specs.Option.{option_copied};
-ghost use Rattle.sh_tree.specs.standard.Words.{word_of, words_of};
+ghost use Rattle.sh_tree.specs.standard.Words.{words_of};
 ghost use Rattle.sh_quote.specs.Elements.{split};
 ghost use Rattle.sh_quote.specs.Unquoted.{is_form, part_form};
 
 use sh_table::definition_in;
-use sh_tree::{Element, Part, Word};
-
-#[tactic(auto, using(sh_tree::proofs::NameLemmas::word_in_element))]
-fn word_of(element: &Element) -> Option<&Word>
-    ensures { option_copied result ≡ word_of element.entry.now }
-{
-    match element {
-        Element::Assignment { .. } => None,
-        Element::Word(word) => Some(word),
-        Element::Redirection(_) => None,
-    }
-}
+use sh_tree::{Element, Part, Word, word_of};
 
 /// The first word, and the elements after it.
 pub fn split_word(elements: &[Element]) -> Option<(&Word, &[Element])>

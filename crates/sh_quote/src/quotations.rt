@@ -1,32 +1,16 @@
 //! Quotations, and the parts of a word whose values are not split (XCU 2.2, 2.6.5).
 ghost use Rattle.std.specs.Prelude.{◌≡◌, ◌||◌, ◌&&◌, ℕ, List, not};
 ghost use Rattle.std.specs.List.{list_all};
+ghost use Rattle.sh_tree.specs.standard.language.Parts.{is_quotation};
 ghost use Rattle.sh_quote.specs.Quotations as spec;
 
-use sh_tree::{Action, ParameterOperator, Part, Special, Subject};
-
-#[tactic(auto, using(crate::proofs::QuotationLemmas::quotes))]
-fn is_quotation(part: &Part) -> bool
-    ensures { result ≡ spec.is_quote part.now }
-{
-    match part {
-        Part::Escaped(_) => true,
-        Part::Single(_, _) => true,
-        Part::Double(_, _) => true,
-        Part::Plain(_) => false,
-        Part::Param(_) => false,
-        Part::Arith(_, _) => false,
-        Part::Command(_, _, _) => false,
-        Part::Tilde(_) => false,
-        Part::Joined(_) => false,
-    }
-}
+use sh_tree::{ParameterOperator, Part, Special, Subject};
 
 /// Whether each part is a quotation: a backslash with its byte, single quotes or double quotes.
 pub fn are_quotations(parts: &[Part]) -> bool
-    ensures { result ≡ list_all spec.is_quote parts.now }
+    ensures { result ≡ list_all is_quotation parts.now }
 {
-    parts.iter().all(|part| is_quotation(part))
+    parts.iter().all(|part| part.is_quotation())
 }
 
 #[tactic(auto, unfolding(crate::specs::Quotations::are_some_quotes))]
@@ -39,25 +23,13 @@ fn are_some_quotations(parts: &[Part]) -> bool
     }
 }
 
-#[tactic(auto, unfolding(crate::specs::Quotations::is_alternative))]
-fn is_alternative(action: Action) -> bool
-    ensures { result ≡ spec.is_alternative action }
-{
-    match action {
-        Action::Alternative => true,
-        Action::Default => false,
-        Action::Assign => false,
-        Action::Fault => false,
-    }
-}
-
 #[tactic(auto, using(crate::proofs::QuotationLemmas::alternatives))]
 fn is_quoted_alternative(operator: &ParameterOperator) -> bool
     ensures { (b : List ℕ) → result ≡ spec.quoted_alternative b operator.now }
 {
     match operator {
         ParameterOperator::Use { action, word, .. } => {
-            is_alternative(*action) && are_some_quotations(word.parts.as_slice())
+            action.is_alternative() && are_some_quotations(word.parts.as_slice())
         }
         ParameterOperator::Value => false,
         ParameterOperator::Length => false,

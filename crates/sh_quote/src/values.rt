@@ -1,7 +1,6 @@
 //! Values of IFS that are static and separate no numbers (XCU 2.2, 2.6.5).
-ghost use Rattle.std.specs.Prelude.{◌≡◌, ◌==◌, ◌∷◌, [], Some};
+ghost use Rattle.std.specs.Prelude.{◌≡◌, ◌==◌, Some};
 ghost use Rattle.std.specs.List.{list_any, list_all};
-ghost use Rattle.std.specs.Str.{bytes_eq};
 ghost use Rattle.sh_tree.specs.standard.Words as words;
 ghost use Rattle.sh_tree.specs.Lists.{parts_from};
 ghost use Rattle.sh_tree.specs.standard.program.Words.{before_word};
@@ -9,6 +8,10 @@ ghost use Rattle.sh_table.specs.Quoting as quoting;
 ghost use Rattle.sh_quote.specs.Steady as steady;
 ghost use Rattle.sh_quote.specs.Values as spec;
 
+use sh_tree::text::{
+    behind_first, between_ends, parts_are_bracket, parts_have_bracket, parts_have_wildcard,
+    text_has_wildcard, text_is_bracket,
+};
 use sh_tree::{Part, SingleStyle};
 
 fn separates_numbers(byte: u8) -> bool
@@ -29,24 +32,6 @@ pub fn is_steady(text: &[u8]) -> bool
     ensures { result ≡ quoting.is_steady (Some text.now) }
 {
     !has_separator(text)
-}
-
-fn behind_first(text: &[u8]) -> &[u8]
-    ensures { result.now ≡ words.behind_first text.entry.now }
-{
-    match text {
-        [] => text,
-        [_, rest @ ..] => rest,
-    }
-}
-
-fn between_ends(text: &[u8]) -> &[u8]
-    ensures { result.now ≡ words.between_ends text.entry.now }
-{
-    match text {
-        [_, inner @ .., _] => inner,
-        _ => &[],
-    }
 }
 
 /// Whether no number is split if this quotation is the value of IFS. No escape of `$'` gives or
@@ -91,64 +76,10 @@ fn part_is_steady(part: &Part, script: &[u8]) -> bool
     }
 }
 
-fn text_has_wildcard(text: &[u8]) -> bool
-    ensures { result ≡ list_any words.is_wildcard text.now }
-{
-    text.iter().any(|byte| matches!(*byte, b'*' | b'?'))
-}
-
 fn text_has_bracket(text: &[u8]) -> bool
     ensures { result ≡ list_any (λ c. c == 91) text.now }
 {
     text.iter().any(|byte| *byte == b'[')
-}
-
-fn is_bracket(text: &[u8]) -> bool
-    ensures { result ≡ bytes_eq text.now (91 ∷ []) }
-{
-    matches!(text, b"[")
-}
-
-#[tactic(auto, unfolding(sh_tree::specs::standard::Words::has_wildcard))]
-fn part_has_wildcard(part: &Part, script: &[u8]) -> bool
-    ensures { result ≡ words.has_wildcard script.now part.now }
-{
-    match part {
-        Part::Plain(span) => text_has_wildcard(span.text(script)),
-        _ => false,
-    }
-}
-
-#[tactic(auto, unfolding(sh_tree::specs::standard::Words::has_bracket))]
-fn part_has_bracket(part: &Part, script: &[u8]) -> bool
-    ensures { result ≡ words.has_bracket script.now part.now }
-{
-    match part {
-        Part::Plain(span) => text_has_bracket(span.text(script)),
-        _ => false,
-    }
-}
-
-fn parts_have_wildcard(parts: &[Part], script: &[u8]) -> bool
-    ensures { result ≡ list_any (words.has_wildcard script.now) parts.now }
-{
-    parts.iter().any(|part| part_has_wildcard(part, script))
-}
-
-fn parts_have_bracket(parts: &[Part], script: &[u8]) -> bool
-    ensures { result ≡ list_any (words.has_bracket script.now) parts.now }
-{
-    parts.iter().any(|part| part_has_bracket(part, script))
-}
-
-#[tactic(auto, unfolding(sh_tree::specs::standard::Words::is_bracket))]
-fn parts_are_bracket(parts: &[Part], script: &[u8]) -> bool
-    ensures { result ≡ words.is_bracket script.now parts.now }
-{
-    match parts {
-        [Part::Plain(span)] => is_bracket(span.text(script)),
-        _ => false,
-    }
 }
 
 // A `[` that is all of the value.
@@ -158,7 +89,7 @@ fn value_is_bracket(front: &[u8], parts: &[Part], script: &[u8]) -> bool
 {
     match front {
         [] => parts_are_bracket(parts, script),
-        _ => parts.is_empty() && is_bracket(front),
+        _ => parts.is_empty() && text_is_bracket(front),
     }
 }
 

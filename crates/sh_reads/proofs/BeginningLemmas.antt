@@ -27,13 +27,9 @@ use Rattle.sh_tree.specs.standard.language.Words as words
 use Rattle.sh_tree.specs.standard.language.Words.{ends_joined}
 use Rattle.sh_tree.specs.standard.language.Commands.{gap_length, blanks, operator_of, operator_lead, whole_operator, opening, reserved_lead, first_lead, name_lead, word_lead, number_lead, other_lead, lead_of, lead_at, is_assignment, name_end, is_bare, bare_word, is_definition, is_parenthesis, entry_of, reserved_words, left_out_names}
 use Rattle.sh_tree.specs.standard.language.Contexts.{in_word, in_value, in_operand, in_stage}
+use Rattle.sh_tree.proofs.FirstLemmas.{first_some}
 
 -- Tests
-
-pub first_some : (p : ℕ → Bool) (cs : List ℕ) → is_first p cs ≡ true → 0 < length cs
-unfolding is_first
-first_some p [] h = absurd (true≢false (sym h))
-first_some p (c ∷ cs) h = omega arith
 
 -- what both branches keep, the test keeps
 either : {A B : Type 0} (f : A → B) (v : B) (t : Bool) (p q : A) → f p ≡ v → f q ≡ v → f (cond t p q) ≡ v
@@ -359,16 +355,16 @@ assignment_begins b s i is =
     go true n h = refl
     go false n h = absurd (true≢false (sym h))
 
-abbrev is_defining : Lead → Bool
+abbrev pub is_defining : Lead → Bool
 is_defining lead.Definition = true
 is_defining _ = false
 
-reserved_other : (cs : List ℕ) (r : Reserved) → is_defining (reserved_lead cs r) ≡ false
+pub reserved_other : (cs : List ℕ) (r : Reserved) → is_defining (reserved_lead cs r) ≡ false
 unfolding reserved_lead
 reserved_other cs word.Bang = grind (arith, nat_tests)
 reserved_other cs r = refl
 
-name_other : (f : Option Form) → is_defining (name_lead f) ≡ false
+pub name_other : (f : Option Form) → is_defining (name_lead f) ≡ false
 unfolding name_lead
 name_other (Some f) = refl
 name_other None = refl

@@ -12,8 +12,8 @@ use Rattle.sh_tree.specs.standard.language.Reading.{figure_at, figure_span, over
 use Rattle.sh_tree.specs.standard.language.States.{Spot}
 use Rattle.sh_tree.specs.standard.language.Trees.{span}
 use Rattle.sh_tree.specs.standard.Tree.{text_of}
-use Rattle.sh_reads.proofs.FrontLemmas.{Front, Stands, stands_at, name_run, name_takes, name_stands}
-use Rattle.sh_reads.proofs.BeginningLemmas.{first_some}
+use Rattle.sh_tree.proofs.FirstLemmas.{first_some, name_some}
+use Rattle.sh_reads.proofs.FrontLemmas.{Front, Stands, stands_at, name_run, name_stands}
 
 -- no operator is a name
 longest_other : (table : List (List ℕ × Figure)) (cs : List ℕ) → list_all (λ x. not (is_figure_name x.1)) table ≡ true → is_figure_name (figure_by cs (longest table cs)).0 ≡ false
@@ -74,8 +74,8 @@ figure_takes b s is =
     let both = go i cs (is_split cs (figure_of cs).1) (figure_of cs) (figure_named cs) (ap is_figure_name is) in
     (both.0, both.1 (length-drop i b))
   where
-    name_some : (cs : List ℕ) → is_first is_name_start cs ≡ true → (0 < name_length cs) × (0 < length cs)
-    name_some cs h = let some = first_some is_name_start cs h in let first = name_run cs h in let long = name_takes cs h in (omega arith, some)
+    named_some : (cs : List ℕ) → is_first is_name_start cs ≡ true → (0 < name_length cs) × (0 < length cs)
+    named_some cs h = let some = first_some is_name_start cs h in let first = name_run cs h in let long = name_some cs h in (omega arith, some)
 
     go : (i : ℕ) (cs : List ℕ) (t : Bool) (found : Figure × ℕ) → Named cs found
         → is_figure_name (cond {A = Lexeme} t (record { figure = figure.LeftOut form.Continuation; start = i + found.1; end = i + found.1 }) (record { figure = found.0; start = i; end = i + found.1 })).figure ≡ true
@@ -86,7 +86,7 @@ figure_takes b s is =
     go i cs true found named h = absurd (true≢false (sym h))
     go i cs false found named h =
         let both = named h in
-        let some = name_some cs both.0 in
+        let some = named_some cs both.0 in
         let a = some.0 in
         let c = some.1 in
         let e = both.1 in

@@ -1,5 +1,5 @@
 -- What a text says at a place, said of a longer text whose front it is: the names that are there.
-use Rattle.std.proofs.Common.{◌≡◌, ℕ, suc, ◌+◌, ◌-◌, ◌<◌, ◌≤◌, Bool, true, List, [], ◌∷◌, length, take, drop, min, refl, sym, ap, ◌∙◌, ⊎_elim, arith, length-take}
+use Rattle.std.proofs.Common.{◌≡◌, ℕ, ◌+◌, ◌-◌, ◌<◌, ◌≤◌, Bool, true, List, [], ◌∷◌, length, take, drop, min, refl, sym, ap, ◌∙◌, ⊎_elim, arith, length-take}
 use Rattle.std.specs.List.{list_all, take_while, prefix_len}
 use Rattle.std.proofs.lemmas.Bool.{cases_Bool, cases_lt, cond-true, cond-false, true≢false, and_from, or_left}
 use Rattle.std.proofs.lemmas.List.{drop-drop, drop-take, drop_all, take-take, take_min, take_all}
@@ -75,14 +75,6 @@ name_front (c ∷ cs) h =
 pub name_run : (cs : List ℕ) → is_first is_name_start cs ≡ true → name_length cs ≡ run is_name_byte cs
 unfolding name_length
 name_run cs h = cond-true _ _ _ h
-
-pub name_takes : (cs : List ℕ) → is_first is_name_start cs ≡ true → 0 < run is_name_byte cs
-unfolding is_first
-name_takes [] h = absurd (true≢false (sym h))
-name_takes (c ∷ cs) h =
-    let more : take_while is_name_byte (c ∷ cs) ≡ c ∷ take_while is_name_byte cs = take_while-cons is_name_byte c cs ∙ cond-true _ _ _ (or_left _ _ h) in
-    let long : run is_name_byte (c ∷ cs) ≡ suc (run is_name_byte cs) = ap length more in
-    omega arith
 
 -- where a name begins, a name is there up to its end
 pub name_stands : (whole : List ℕ) (i : ℕ) (cs : List ℕ) → Stands whole i cs → is_first is_name_start cs ≡ true → is_name (text_of whole (span i (i + name_length cs))) ≡ true

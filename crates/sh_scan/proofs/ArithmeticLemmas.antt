@@ -1,13 +1,13 @@
 -- Tokens of arithmetic.
-use Rattle.std.proofs.Common.{◌≡◌, ℕ, ◌+◌, ◌<◌, ◌≤◌, Bool, true, false, not, ◌&&◌, ◌||◌, ◌==◌, List, [], ◌∷◌, length, drop, codes, cond, refl, ap, sym, ◌∙◌, arith}
+use Rattle.std.proofs.Common.{◌≡◌, ℕ, ◌+◌, ◌<◌, ◌≤◌, Bool, true, false, not, ◌&&◌, ◌==◌, List, [], ◌∷◌, length, drop, codes, cond, refl, ap, sym, ◌∙◌, arith}
 use Rattle.std.proofs.lemmas.Bool.Decides.{nat_tests}
 use Rattle.std.proofs.lemmas.Bool.{false≢true, and_parts}
 use Rattle.sh_tree.specs.declared.token.arithmetic.Figure.{Figure}
 use Rattle.std.specs.Prelude.{IfSome, Some, nat_eq}
 use Rattle.std.specs.List.{starts_with}
-use Rattle.sh_tree.specs.standard.language.Bytes.{is_in, is_first, is_digit, is_octal, is_hexadecimal, is_name_start, is_name_byte, run, longest}
+use Rattle.sh_tree.specs.standard.language.Bytes.{is_in, is_first, is_digit, is_octal, is_hexadecimal, run, longest}
 use Rattle.sh_tree.specs.standard.language.Arithmetic.{constant_length, operator_table}
-use Rattle.sh_scan.proofs.RunLemmas.{run_yes, run_no, run_some}
+use Rattle.sh_scan.proofs.RunLemmas.{run_yes, run_no}
 
 -- a run that is not empty begins
 pub run_begins : (p : ℕ → Bool) (cs : List ℕ) → is_first p cs ≡ not (run p cs == 0)
@@ -21,9 +21,6 @@ run_begins p (c ∷ cs) = go (p c) refl
     go : (t : Bool) → p c ≡ t → p c ≡ not (run p (c ∷ cs) == 0)
     go true is = is ∙ some (run p cs) ∙ ap (λ n. not (n == 0)) (sym (run_yes p c cs is))
     go false is = is ∙ ap (λ n. not (n == 0)) (sym (run_no p c cs is))
-
-pub name_some : (cs : List ℕ) → is_first is_name_start cs ≡ true → 0 < run is_name_byte cs
-name_some cs h = run_some is_name_start is_name_byte cs (λ c e. ap (λ t. t || is_digit c) e) h
 
 -- the constant that begins with the digit c
 pub constant_is : (c : ℕ) (cs : List ℕ) → is_digit c ≡ true → constant_length (c ∷ cs) ≡

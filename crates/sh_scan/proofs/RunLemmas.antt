@@ -1,11 +1,11 @@
 -- How many bytes of a class are at the front.
 use Rattle.std.proofs.Common.{◌≡◌, ℕ, ◌+◌, ◌<◌, ◌≤◌, ◌==◌, Bool, true, false, not, Some, None, List, [], ◌∷◌, ◌++◌, length, take_while, cond, refl, ap, ◌∙◌, sym, arith}
 use Rattle.std.specs.List.{position_or_len}
-use Rattle.std.proofs.lemmas.Bool.{false≢true, false_from_ne_true}
+use Rattle.std.proofs.lemmas.Bool.{false_from_ne_true}
 use Rattle.std.proofs.lemmas.List.Folds.{length-prefix_len}
 use Rattle.std.proofs.lemmas.List.Sums.{position_or_len_is, take_while-cons}
 use Rattle.memchr.specs.Find.{IsFirstByte, is_byte}
-use Rattle.sh_tree.specs.standard.language.Bytes.{run, is_first}
+use Rattle.sh_tree.specs.standard.language.Bytes.{run}
 
 pub run_yes : (p : ℕ → Bool) (c : ℕ) (cs : List ℕ) → p c ≡ true → run p (c ∷ cs) ≡ run p cs + 1
 run_yes p c cs h = ap length (take_while-cons p c cs ∙ ap (λ t. cond t (c ∷ take_while p cs) []) h) ∙ omega arith
@@ -38,12 +38,6 @@ run_over p (x ∷ xs) ys h = go (λ full. run_over p xs ys full) (p x) refl
         let more : run p (x ∷ (xs ++ ys)) ≡ run p (xs ++ ys) + 1 = run_yes p x (xs ++ ys) is in
         omega arith
     go shorter false is = let none : run p (x ∷ xs) ≡ 0 = run_no p x xs is in absurd (omega arith)
-
--- what a name begins with is one byte of it at least
-pub run_some : (p q : ℕ → Bool) (cs : List ℕ) → ((c : ℕ) → p c ≡ true → q c ≡ true) → is_first p cs ≡ true → 0 < run q cs
-unfolding is_first
-run_some p q [] wider h = absurd (false≢true h)
-run_some p q (c ∷ cs) wider h = let e : run q (c ∷ cs) ≡ run q cs + 1 = run_yes q c cs (wider c h) in omega arith
 
 -- what a search of the byte d says of the bytes before it
 

@@ -2,8 +2,8 @@
 ghost use Rattle.std.specs.Prelude.{◌≡◌, ◌≤◌, length, drop};
 ghost use Rattle.sh_tree.specs.standard.language.Commands as commands;
 
-use crate::front::{begins_angle, begins_with, behind_joined, name_length};
-use sh_tree::MAX_SCRIPT;
+use crate::front::{begins_angle, begins_with, behind_joined};
+use sh_tree::{MAX_SCRIPT, name_length};
 
 /// Whether a name and `=` are at the front.
 #[tactic(auto, unfolding(sh_tree::specs::standard::language::Commands::is_assignment))]

@@ -12,13 +12,6 @@ pub fn is_blank(byte: u8) -> bool
     matches!(classify(byte), Class::Blank)
 }
 
-#[tactic(auto, unfolding(crate::specs::Classes::class_of))]
-pub fn is_digit(byte: u8) -> bool
-    ensures { result ≡ bytes.is_digit byte }
-{
-    matches!(classify(byte), Class::Digit)
-}
-
 /// Whether an operator begins with the byte (XCU 2.10.2).
 #[tactic(auto, unfolding(crate::specs::Classes::class_of))]
 pub fn is_operator_byte(byte: u8) -> bool

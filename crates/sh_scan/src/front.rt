@@ -5,8 +5,8 @@ ghost use Rattle.sh_tree.specs.standard.language.Commands as commands;
 ghost use Rattle.sh_tree.specs.standard.language.Words as words;
 ghost use Rattle.sh_scan.specs.Steps.{joined_step};
 
-use crate::bytes::{ends_token, is_digit};
-use sh_tree::{MAX_SCRIPT, is_name_byte, is_name_start};
+use crate::bytes::ends_token;
+use sh_tree::{MAX_SCRIPT, is_digit, name_length};
 
 /// Whether the text begins with the byte.
 #[tactic(auto, unfolding(sh_tree::specs::standard::language::Bytes::is_first))]
@@ -17,36 +17,6 @@ pub fn begins_with(rest: &[u8], byte: u8) -> bool
     match rest {
         [] => false,
         [first, ..] => *first == byte,
-    }
-}
-
-#[tactic(auto, unfolding(sh_tree::specs::standard::language::Bytes::is_first))]
-fn begins_name(rest: &[u8]) -> bool
-    ensures { result ≡ bytes.is_first bytes.is_name_start rest.now }
-{
-    match rest {
-        [] => false,
-        [first, ..] => is_name_start(*first),
-    }
-}
-
-fn name_bytes(rest: &[u8]) -> usize
-    ensures value { result ≡ bytes.run bytes.is_name_byte rest.now }
-    ensures within { result ≤ length rest.now }
-{
-    rest.iter().take_while(|byte| is_name_byte(**byte)).count()
-}
-
-/// How long the name at the front is.
-#[tactic(auto, unfolding(sh_tree::specs::standard::language::Bytes::name_length))]
-pub fn name_length(rest: &[u8]) -> usize
-    ensures value { result ≡ bytes.name_length rest.now }
-    ensures within { result ≤ length rest.now }
-{
-    if begins_name(rest) {
-        name_bytes(rest)
-    } else {
-        0
     }
 }
 

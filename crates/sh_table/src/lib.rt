@@ -22,4 +22,4 @@ pub use operands::{
 pub use profile::admit;
 pub use site::Around;
 pub use table::CallTable;
-pub use word_text::WordText;
+pub use word_text::{WordText, lone_part};

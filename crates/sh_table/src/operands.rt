@@ -1,5 +1,5 @@
 //! Operands of commands: what the profile requires of them, and what options and names are.
-ghost use Rattle.std.specs.Prelude.{◌≡◌, ◌≤◌, length, drop, map, is_some, option_map, Some, nat_lt, false};
+ghost use Rattle.std.specs.Prelude.{◌≡◌, drop, map, is_some, option_map, Some, nat_lt, false};
 ghost use Rattle.std.specs.List.{list_all, list_any};
 ghost use Rattle.sh_tree.specs.standard.language.Bytes as bytes;
 ghost use Rattle.sh_table.specs.Profile as profile;
@@ -9,12 +9,12 @@ ghost use Rattle.sh_table.specs.standard.runs.Operands as operands;
 
 use crate::kind::{Kind, kind_of};
 use crate::word_text::WordText;
-use sh_tree::{is_name_byte, is_name_start};
+use sh_tree::{is_digit, name_length};
 
 fn are_digits(text: &[u8]) -> bool
     ensures { result ≡ list_all bytes.is_digit text.now }
 {
-    text.iter().all(|byte| matches!(*byte, b'0'..=b'9'))
+    text.iter().all(|byte| is_digit(*byte))
 }
 
 /// Whether the text is a decimal numeral.
@@ -293,36 +293,6 @@ pub fn sets_known(words: &[WordText], script: &[u8]) -> bool
         rest = others;
     }
     true
-}
-
-#[tactic(auto, unfolding(sh_tree::specs::standard::language::Bytes::is_first))]
-fn begins_name(text: &[u8]) -> bool
-    ensures { result ≡ bytes.is_first bytes.is_name_start text.now }
-{
-    match text {
-        [] => false,
-        [first, ..] => is_name_start(*first),
-    }
-}
-
-fn name_bytes(text: &[u8]) -> usize
-    ensures value { result ≡ bytes.run bytes.is_name_byte text.now }
-    ensures within { result ≤ length text.now }
-{
-    text.iter().take_while(|byte| is_name_byte(**byte)).count()
-}
-
-// How long the name at the front is (XBD 3.216); 0 if none is.
-#[tactic(auto, unfolding(sh_tree::specs::standard::language::Bytes::name_length))]
-fn name_length(text: &[u8]) -> usize
-    ensures value { result ≡ bytes.name_length text.now }
-    ensures within { result ≤ length text.now }
-{
-    if begins_name(text) {
-        name_bytes(text)
-    } else {
-        0
-    }
 }
 
 /// The name and the value, if the text is a name, `=` and a value: an assignment in form

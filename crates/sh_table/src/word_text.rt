@@ -2,7 +2,6 @@
 ghost use Rattle.std.specs.Prelude.{◌≡◌, ◌++◌, ◌∷◌, [], ℕ, List, map, IfOk, IfSome, OnOk, Some, option_map};
 ghost use Rattle.std.specs.List.{list_any, flat_map};
 ghost use Rattle.std.specs.Option.{option_copied};
-ghost use Rattle.std.specs.Str.{bytes_eq};
 ghost use Rattle.sh_tree.specs.standard.Tree.{text_of};
 ghost use Rattle.sh_tree.specs.standard.Words as words;
 ghost use Rattle.sh_tree.specs.standard.Words.{static_text};
@@ -11,6 +10,7 @@ ghost use Rattle.sh_table.specs.Sites as sites;
 ghost use Rattle.sh_tree.specs.standard.program.Words.{operands_in};
 ghost use Rattle.sh_table.specs.WordTexts as spec;
 
+use sh_tree::text::text_is_bracket;
 use sh_tree::{Boxed, Element, Part, SingleStyle, Span, Word, static_text};
 use std::alloc::{AllocError, Global};
 
@@ -33,19 +33,13 @@ fn has_special(text: &[u8]) -> bool
     text.iter().any(|byte| matches!(*byte, b'*' | b'?' | b'['))
 }
 
-fn is_bracket(text: &[u8]) -> bool
-    ensures { result ≡ bytes_eq text.now (91 ∷ []) }
-{
-    matches!(text, b"[")
-}
-
 /// Whether plain bytes hold a byte of a pattern (XCU 2.14): a `*`, a `?`, or a `[` that is not all
 /// of them.
 #[tactic(auto, unfolding(crate::specs::WordTexts::has_pattern))]
 fn has_pattern(text: &[u8]) -> bool
     ensures { result ≡ spec.has_pattern text.now }
 {
-    has_special(text) && !is_bracket(text)
+    has_special(text) && !text_is_bracket(text)
 }
 
 /// The bytes of parts that are plain bytes alone.
@@ -105,8 +99,9 @@ fn part_span(part: &Part, script: &[u8]) -> Option<Span>
     }
 }
 
+/// The part of a word that has one.
 #[tactic(auto, unfolding(crate::specs::WordTexts::lone_part))]
-fn lone_part(parts: &[Part]) -> Option<&Part>
+pub fn lone_part(parts: &[Part]) -> Option<&Part>
     ensures { option_copied result ≡ spec.lone_part parts.entry.now }
 {
     match parts {

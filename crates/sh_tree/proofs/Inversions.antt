@@ -1,6 +1,6 @@
 -- What a reading begins with, by the token or the sign at its first byte.
 use Rattle.std.proofs.Common.{◌≡◌, ℕ, ◌+◌, ◌-◌, ◌<◌, Bool, true, false, not, ◌||◌, ◌⊎◌, inl, inr, List, [], ◌∷◌, Option, Some, None, take, refl, sym, ap, ◌∙◌, subst}
-use Rattle.std.proofs.lemmas.Bool.{true≢false}
+use Rattle.std.proofs.lemmas.Bool.{true≢false, or_left, or_right}
 use Rattle.std.proofs.lemmas.Option.{same_Some}
 use Rattle.sh_tree.specs.declared.tree.AndOr.{AndOr}
 use Rattle.sh_tree.specs.declared.tree.Command.{Command}
@@ -344,11 +344,31 @@ simple_not_compound (lead.Operator op.LeftParenthesis) h = absurd (true≢false 
 simple_not_compound (lead.Reserved w) h = absurd (true≢false (sym h))
 simple_not_compound _ h = refl
 
-redirection_is_simple : (l : Lead) → is_redirection l ≡ true → begins_simple l ≡ true
+pub redirection_is_simple : (l : Lead) → is_redirection l ≡ true → begins_simple l ≡ true
 unfolding begins_simple is_redirection
 redirection_is_simple lead.Word h = refl
 redirection_is_simple lead.Assignment h = refl
 redirection_is_simple _ h = h
+
+pub no_redirection : (l : Lead) → begins_simple l ≡ false → is_redirection l ≡ false
+unfolding begins_simple is_redirection
+no_redirection lead.Word h = refl
+no_redirection lead.Assignment h = refl
+no_redirection _ h = h
+
+pub simple_command_begins : (l : Lead) → begins_simple l ≡ true → begins_command l ≡ true
+unfolding begins_command
+simple_command_begins lead.Definition h = refl
+simple_command_begins l h = or_left (begins_simple l) (begins_compound l) h
+
+pub compound_command_begins : (l : Lead) → begins_compound l ≡ true → begins_command l ≡ true
+unfolding begins_command
+compound_command_begins lead.Definition h = refl
+compound_command_begins l h = or_right (begins_simple l) (begins_compound l) h
+
+pub word_is : (l : Lead) → is_word l ≡ true → l ≡ lead.Word
+word_is lead.Word h = refl
+word_is _ h = absurd (true≢false (sym h))
 
 pub compound_begins : {limit : ℕ} {b : List ℕ} {body : ℕ → Document} {l : Lead} {s v : State} {k : Kind} → ReadsCompound limit b body l s v k → begins_compound l ≡ true
 unfolding begins_compound

@@ -4,6 +4,7 @@ pub mod LanguageLemmas
 pub mod ProgramRules
 pub mod ProgramWords
 pub mod ProgramForms
+pub mod FirstLemmas
 pub mod Inversions
 pub mod WordReadings
 pub mod CommandReadings

@@ -11,7 +11,7 @@ mod listing;
 mod name;
 mod place;
 mod refusal;
-mod text;
+pub mod text;
 mod token;
 mod tree;
 mod words;
@@ -21,7 +21,7 @@ pub use items::Items;
 pub use known::{Declaration, KnownName};
 pub use limits::{MAX_COMMANDS, MAX_NAMES, MAX_NESTING, MAX_SCRIPT};
 pub use listing::commands;
-pub use name::{is_name, is_name_byte, is_name_start};
+pub use name::{is_digit, is_name, is_name_byte, is_name_start, name_length};
 pub use place::{Code, Place};
 pub use refusal::{Fault, Form, Refusal, Rule};
 pub use text::{static_text, unquoted_text};
@@ -33,4 +33,4 @@ pub use tree::{
     Expr, HereDoc, Item, Kind, Link, LoopKind, Param, ParameterOperator, Part, Pipe, Redirect,
     Removal, Script, SingleStyle, Span, Special, Subject, Target, Unary, Word,
 };
-pub use words::command_name;
+pub use words::{command_name, word_of};

@@ -1,6 +1,7 @@
 //! The text of words that hold no expansion.
-ghost use Rattle.std.specs.Prelude.{◌≡◌, ◌++◌, if◌then◌else◌, Some, None, IfOk, option_map};
+ghost use Rattle.std.specs.Prelude.{◌≡◌, ◌++◌, ◌∷◌, [], if◌then◌else◌, Some, None, IfOk, option_map};
 ghost use Rattle.std.specs.List.{list_any};
+ghost use Rattle.std.specs.Str.{bytes_eq};
 ghost use Rattle.sh_tree.specs.standard.Words as words;
 ghost use Rattle.sh_tree.specs.standard.Words.{both_texts};
 
@@ -125,7 +126,7 @@ fn escape_of(letter: u8) -> u8
 }
 
 /// The text without its first byte.
-fn behind_first(text: &[u8]) -> &[u8]
+pub fn behind_first(text: &[u8]) -> &[u8]
     ensures { result.now ≡ words.behind_first text.entry.now }
 {
     match text {
@@ -135,7 +136,7 @@ fn behind_first(text: &[u8]) -> &[u8]
 }
 
 /// The text without its first and its last byte.
-fn between_ends(text: &[u8]) -> &[u8]
+pub fn between_ends(text: &[u8]) -> &[u8]
     ensures { result.now ≡ words.between_ends text.entry.now }
 {
     match text {
@@ -149,14 +150,14 @@ fn between_ends(text: &[u8]) -> &[u8]
 fn is_pattern(parts: &[Part], script: &[u8]) -> bool
     ensures { result ≡ words.is_pattern script.now parts.now }
 {
-    let wildcard = has_wildcard(parts, script);
-    let bracket = has_bracket(parts, script);
-    let alone = is_bracket(parts, script);
+    let wildcard = parts_have_wildcard(parts, script);
+    let bracket = parts_have_bracket(parts, script);
+    let alone = parts_are_bracket(parts, script);
     wildcard || bracket && !alone
 }
 
 /// Whether the parts hold a `*` or a `?` outside quotes.
-fn has_wildcard(parts: &[Part], script: &[u8]) -> bool
+pub fn parts_have_wildcard(parts: &[Part], script: &[u8]) -> bool
     ensures { result ≡ list_any (words.has_wildcard script.now) parts.now }
 {
     parts.iter().any(|part| part_has_wildcard(part, script))
@@ -172,7 +173,8 @@ fn part_has_wildcard(part: &Part, script: &[u8]) -> bool
     }
 }
 
-fn text_has_wildcard(text: &[u8]) -> bool
+/// Whether the text holds a `*` or a `?`.
+pub fn text_has_wildcard(text: &[u8]) -> bool
     ensures { result ≡ list_any words.is_wildcard text.now }
 {
     text.iter().any(|byte| is_wildcard(*byte))
@@ -186,7 +188,7 @@ fn is_wildcard(byte: u8) -> bool
 }
 
 /// Whether the parts hold a `[` outside quotes.
-fn has_bracket(parts: &[Part], script: &[u8]) -> bool
+pub fn parts_have_bracket(parts: &[Part], script: &[u8]) -> bool
     ensures { result ≡ list_any (words.has_bracket script.now) parts.now }
 {
     parts.iter().any(|part| part_has_bracket(part, script))
@@ -202,13 +204,20 @@ fn part_has_bracket(part: &Part, script: &[u8]) -> bool
     }
 }
 
+/// Whether the text is `[`.
+pub fn text_is_bracket(text: &[u8]) -> bool
+    ensures { result ≡ bytes_eq text.now (91 ∷ []) }
+{
+    matches!(text, b"[")
+}
+
 /// Whether the parts are `[` alone.
 #[tactic(auto, unfolding(crate::specs::standard::Words::is_bracket))]
-fn is_bracket(parts: &[Part], script: &[u8]) -> bool
+pub fn parts_are_bracket(parts: &[Part], script: &[u8]) -> bool
     ensures { result ≡ words.is_bracket script.now parts.now }
 {
     match parts {
-        [Part::Plain(span)] => matches!(span.text(script), b"["),
+        [Part::Plain(span)] => text_is_bracket(span.text(script)),
         _ => false,
     }
 }

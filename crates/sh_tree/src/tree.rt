@@ -2,6 +2,8 @@
 ghost use Rattle.std.specs.Prelude.{◌≡◌};
 ghost use Rattle.sh_tree.specs.standard.Tree.{text_of};
 ghost use Rattle.sh_tree.specs.standard.Words.{elements_of};
+ghost use Rattle.sh_tree.specs.standard.language.Parts as parts;
+ghost use Rattle.sh_tree.specs.standard.language.Words as words;
 ghost use Rattle.sh_tree.specs.declared.tree.Command.{out-Command};
 
 use crate::boxed::Boxed;
@@ -258,6 +260,19 @@ pub enum Part {
     Joined(Span),
 }
 
+impl Part {
+    /// Whether the part is a quotation: a backslash with its byte, single quotes or double quotes.
+    #[tactic(auto, unfolding(crate::specs::standard::language::Parts::is_quotation))]
+    pub fn is_quotation(&self) -> bool
+        ensures { result ≡ parts.is_quotation self.now }
+    {
+        matches!(
+            self,
+            Part::Escaped(_) | Part::Single(_, _) | Part::Double(_, _)
+        )
+    }
+}
+
 /// How a quotation in single quotes is written.
 #[derive(Clone, Copy, Debug, PartialEq, Eq)]
 pub enum SingleStyle {
@@ -350,6 +365,18 @@ pub enum Action {
     Fault,
     /// `+`: the word replaces a set parameter.
     Alternative,
+}
+
+impl Action {
+    /// Whether the word replaces a set parameter.
+    pub fn is_alternative(self) -> bool
+        ensures { result ≡ words.is_alternative self }
+    {
+        match self {
+            Action::Alternative => true,
+            Action::Default | Action::Assign | Action::Fault => false,
+        }
+    }
 }
 
 /// What an expansion removes from the value.

@@ -5,8 +5,9 @@ ghost use Rattle.sh_tree.specs.standard.Words.{word_of, words_of};
 
 use crate::tree::{Element, Word};
 
+/// The word that an element is, if it is no assignment and no redirection.
 #[tactic(auto, using(crate::proofs::NameLemmas::word_in_element))]
-fn word_of(element: &Element) -> Option<&Word>
+pub fn word_of(element: &Element) -> Option<&Word>
     ensures { option_copied result ≡ word_of element.entry.now }
 {
     match element {

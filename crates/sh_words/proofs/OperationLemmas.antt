@@ -3,6 +3,7 @@ use Rattle.std.proofs.Common.{◌≡◌, ℕ, ◌+◌, ◌<◌, ◌≤◌, ◌�
 use Rattle.std.proofs.lemmas.Bool.{true≢false}
 use Rattle.std.proofs.lemmas.List.{append_assoc}
 use Rattle.sh_tree.proofs.Inversions.{apart}
+use Rattle.sh_tree.proofs.FirstLemmas.{first_some}
 use Rattle.sh_tree.specs.declared.refusal.Refusal.{Refusal}
 use Rattle.sh_tree.specs.declared.refusal.Refusal.TheVariants.{Syntax, LeftOut, TooDeep, Memory}
 use Rattle.sh_tree.specs.declared.tree.Binary.{Binary}
@@ -14,7 +15,6 @@ use Rattle.sh_tree.specs.declared.token.word.Context.{Context}
 use Rattle.sh_tree.specs.declared.token.arithmetic.Figure.{Figure}
 use Rattle.sh_tree.specs.declared.token.arithmetic.Figure.TheVariants as figure
 use Rattle.sh_tree.specs.declared.token.arithmetic.Lexeme.{Lexeme}
-use Rattle.sh_tree.specs.standard.language.Bytes.{is_first}
 use Rattle.sh_tree.specs.standard.language.Arithmetic.{lexeme, binary_of, is_closed, unary_level}
 use Rattle.sh_tree.specs.standard.language.Reading as r
 use Rattle.sh_tree.specs.standard.language.Reading.{ReadsLevel, ReadsOperands, figure_at, over, is_question}
@@ -303,11 +303,6 @@ unfolding Left
 no_operand_around b w e none limit g u ps l = none l.0
 
 -- The end of an arithmetic expansion
-
-pub first_some : (p : ℕ → Bool) (cs : List ℕ) → is_first p cs ≡ true → 0 < length cs
-unfolding is_first
-first_some p [] h = absurd (true≢false (sym h))
-first_some p (c ∷ cs) h = omega arith
 
 pub closed_inside : (b : List ℕ) (i : ℕ) → is_closed b i ≡ true → i < length b
 unfolding is_closed

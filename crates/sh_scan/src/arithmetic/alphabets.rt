@@ -4,8 +4,7 @@ ghost use Rattle.std.specs.Prelude.{◌≡◌, ◌≤◌, ◌<◌, ◌+◌, ◌+
 ghost use Rattle.sh_tree.specs.standard.language.Bytes as bytes;
 ghost use Rattle.sh_scan.specs.Alphabets.{belongs};
 
-use crate::bytes::is_digit;
-use sh_tree::{MAX_SCRIPT, is_name_byte};
+use sh_tree::{MAX_SCRIPT, is_digit, is_name_byte};
 
 /// Of which bytes names and constants are made.
 #[derive(Clone, Copy, Debug, PartialEq, Eq)]

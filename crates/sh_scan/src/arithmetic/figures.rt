@@ -6,11 +6,10 @@ ghost use Rattle.sh_tree.specs.standard.language.Arithmetic as arithmetic;
 use super::alphabets::{Alphabet, run_over};
 use super::constants::constant_length;
 use super::operators::operator;
-use crate::bytes::is_digit;
 use crate::pieces::begins_so;
-use sh_tree::{Figure, Form, MAX_SCRIPT, is_name_start};
+use sh_tree::{Figure, Form, MAX_SCRIPT, is_digit, is_name_start};
 
-#[tactic(auto, using(crate::proofs::ArithmeticLemmas::name_some), unfolding(sh_tree::specs::standard::language::Arithmetic::name_figure, sh_tree::specs::standard::language::Bytes::name_length))]
+#[tactic(auto, using(sh_tree::proofs::FirstLemmas::name_some), unfolding(sh_tree::specs::standard::language::Arithmetic::name_figure, sh_tree::specs::standard::language::Bytes::name_length))]
 fn name_figure(front: &[u8], rest: &[u8]) -> (Figure, usize)
     requires small { length front.now + length rest.now ≤ MAX_SCRIPT }
     requires begun { bytes.is_first bytes.is_name_start (front.now ++ rest.now) ≡ true }

@@ -1,5 +1,5 @@
 //! What the tokens of commands are (XCU 2.3, 2.4, 2.10).
-ghost use Rattle.std.specs.Prelude.{◌≡◌, ◌≢◌, ◌≤◌, ◌<◌, ◌+◌, None, length, drop};
+ghost use Rattle.std.specs.Prelude.{◌≡◌, ◌≢◌, ◌≤◌, ◌<◌, ◌+◌, None, length};
 ghost use Rattle.sh_tree.specs.standard.language.Commands as commands;
 
 use super::bare::{bare_word, left_out_name, reserved_word};
@@ -7,6 +7,7 @@ use super::operators::{is_split, operator_of};
 use crate::assignments::is_assignment;
 use crate::blanks::blanks_at;
 use crate::front::{begins_angle, begins_with, behind_joined, digit_length, is_last_backquote};
+use sh_tree::text::behind_first;
 use sh_tree::{Form, Lead, MAX_SCRIPT, Operator, Reserved, Stage, is_name};
 
 /// `(` at a command's first token, before `rest`.
@@ -57,15 +58,6 @@ fn operator_lead(stage: Stage, rest: &[u8], operator: Operator, count: usize) ->
         Lead::LeftOut(Form::Continuation)
     } else {
         whole_operator(stage, &rest[count..], operator)
-    }
-}
-
-fn behind_first(rest: &[u8]) -> &[u8]
-    ensures { result.now ≡ drop 1 rest.now }
-{
-    match rest {
-        [] => &[],
-        [_, others @ ..] => others,
     }
 }
 

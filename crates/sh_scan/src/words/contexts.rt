@@ -19,21 +19,12 @@ pub fn in_double(context: Context) -> Context
     }
 }
 
-fn is_alternative(action: Action) -> bool
-    ensures { result ≡ words.is_alternative action }
-{
-    match action {
-        Action::Alternative => true,
-        Action::Default | Action::Assign | Action::Fault => false,
-    }
-}
-
 /// In the word after `-`, `=`, `?` or `+`, from `at` on.
 pub fn in_use(context: Context, action: Action, at: u32) -> Context
     ensures { result ≡ words.in_use context action at }
 {
     let quoted = is_quoted(context.site);
-    let alternative = is_alternative(action);
+    let alternative = action.is_alternative();
     Context {
         site: if quoted {
             Site::QuotedBraced

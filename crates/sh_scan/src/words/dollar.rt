@@ -8,9 +8,10 @@ use super::braced::braced_sign;
 use super::escapes::dollar_quoted;
 use super::parameters::{span, special_of};
 use super::sites::is_among;
-use crate::front::{begins_with, behind_joined, is_joined, name_length};
+use crate::front::{begins_with, behind_joined, is_joined};
 use sh_tree::{
     CommandStyle, Context, Form, MAX_SCRIPT, Sign, Special, Subject, is_name_byte, is_name_start,
+    name_length,
 };
 
 fn opens_dollar(quoted: bool, byte: u8) -> bool

@@ -4,8 +4,8 @@ ghost use Rattle.sh_tree.specs.standard.language.Bytes as bytes;
 ghost use Rattle.sh_tree.specs.standard.language.Words as words;
 ghost use Rattle.sh_tree.specs.standard.language.Trees as tree;
 
-use crate::front::{begins_with, digit_length, name_length};
-use sh_tree::{MAX_SCRIPT, Span, Special, Subject};
+use crate::front::{begins_with, digit_length};
+use sh_tree::{MAX_SCRIPT, Span, Special, Subject, name_length};
 
 /// The bytes from `start` up to `end`.
 pub fn span(start: usize, end: usize) -> Span

@@ -3,7 +3,7 @@ use Rattle.std.specs.Str.{bytes_eq}
 use Rattle.sh_facts.specs.Fields.{text_left, left_of}
 use Rattle.sh_domain.specs.Forms.{whole_line, formed}
 use Rattle.sh_domain.specs.Sheets.{first_line}
-use Rattle.sh_facts.proofs.lines.behind_first.Goals as goal
+use Rattle.sh_facts.proofs.lines.behind_version.Goals as goal
 
 pub returns-in_default : goal.returns-in_default
 unfolding text_left left_of whole_line
