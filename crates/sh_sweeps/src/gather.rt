@@ -32,6 +32,20 @@ pub struct Gather {
     pub next: Target,
 }
 
+// The place, if there is one that a script may have.
+fn fitting_place(spot: Option<Spot>) -> Option<Place>
+    ensures { result ≡ option_and_then fitting_place (option_map place_at spot) }
+{
+    spot?.place()
+}
+
+// The index, if there is one that a script may have.
+fn fitting_index(index: Option<usize>) -> Option<u16>
+    ensures { result ≡ option_and_then fitting index }
+{
+    fitting(index?)
+}
+
 // The place that is next: this one, if it is one, unless it is passed over.
 #[tactic(auto, unfolding(sh_drafts::specs::Gathered::next_of))]
 fn next_place(is_passed: bool, spot: Option<Spot>, next: Place) -> Place
@@ -40,7 +54,7 @@ fn next_place(is_passed: bool, spot: Option<Spot>, next: Place) -> Place
     if is_passed {
         return next;
     }
-    spot.and_then(Spot::place).unwrap_or(next)
+    fitting_place(spot).unwrap_or(next)
 }
 
 // The index of the function that is next: this one, if it is one, unless it is passed over.
@@ -51,7 +65,7 @@ fn next_function(is_passed: bool, index: Option<usize>, next: u16) -> u16
     if is_passed {
         return next;
     }
-    index.and_then(fitting).unwrap_or(next)
+    fitting_index(index).unwrap_or(next)
 }
 
 /// Whether this is the place.
