@@ -426,6 +426,10 @@ LINED = {
     "entries of one body": of(each("vN=\n"), "f() {\n", each('b "$vN"\n'), "}\n", each("unset vN; f\n")),
     "entries by functions": of(each("vN=\n", 1900), "f() { :; }\n", each("gN() { f; }; unset vN; gN\n", 1900)),
     "entries of functions": of(each("vN=\n", 1900), "f() { :; }\n", each("gN() { unset vN; f; }\n", 1900), each("gN\n", 1900)),
+    "entries in a loop": of(each("vN=\n", 1900), "f() { :; }\n", each("gN() { f; }\n", 1900), "while a; do\n", each("unset vN\ngN\n", 1900), "done\n"),
+    "entries by recursion": of(each("vN=\n", 1900), "f() { a && f; }\n", each("gN() { f; unset vN; }; gN\n", 1900)),
+    "entries in conditions": of(each("vN=\n", 1900), "f() { :; }\n", each("gN() { if f; then unset vN; fi; }; gN\n", 1900)),
+    "entries of long bodies": of(each("vN=\n", 1900), "f() {\n", each('b "$vN"\n', 1900), "}\n", each("gN() { unset vN; f; }; gN\n", 1900)),
     "lost along calls": of(each("fN() { unset vN; fK; }\n", MOST_NAMES // 2), "f0\n"),
     "told in parts of parts": told_within,
     "told by callers": of("f0() { unset v; }\n", each("fN() { f0 | f0; }\n"), "f9\n"),
@@ -491,6 +495,7 @@ def calls_of(text, _lines):
 
 
 def definitions_of(text, _lines):
+    """Each definition has all calls noted."""
     return text.count("f()") / 10
 
 
@@ -499,15 +504,16 @@ def findings_of(text, lines):
     return lines / straight(len(text)).count("\n") / 4 / MOST_RATIO
 
 
+# Functions that call one helper, and are called in turn: each takes a round, which need not be.
+CALLED = ("entries by functions", "entries by recursion", "entries in a loop", "entries in conditions", "entries of functions", "entries of long bodies")
 # How often MOST_RATIO a family may take. In the first four it is inherent.
 ROUNDS = {
     "triggers": rounds_of,
     "trigger calls": rounds_of,
     "told by parts": findings_of,
     "told in parts of parts": findings_of,
-    "entries by functions": calls_of,
-    "entries of functions": calls_of,
     "defined again, then called": definitions_of,
+    **dict.fromkeys(CALLED, calls_of),
 }
 # Counts of parameters fall up to 16 times at each command until they are solved apart.
 COUNTED = ("shift functions", "shift meets", "shift words in", "shift nested")
