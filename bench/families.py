@@ -489,11 +489,6 @@ def rounds_of(text, _lines):
     return text.count("unset -f")
 
 
-def calls_of(text, _lines):
-    """Each call takes a round."""
-    return text.count("\ng")
-
-
 def definitions_of(text, _lines):
     """Each definition has all calls noted."""
     return text.count("f()") / 10
@@ -504,7 +499,7 @@ def findings_of(text, lines):
     return lines / straight(len(text)).count("\n") / 4 / MOST_RATIO
 
 
-# Functions that call one helper, and are called in turn: each takes a round, which need not be.
+# Functions that call one helper, and are called in turn.
 CALLED = ("entries by functions", "entries by recursion", "entries in a loop", "entries in conditions", "entries of functions", "entries of long bodies")
 # How often MOST_RATIO a family may take. In the first four it is inherent.
 ROUNDS = {
@@ -513,14 +508,13 @@ ROUNDS = {
     "told by parts": findings_of,
     "told in parts of parts": findings_of,
     "defined again, then called": definitions_of,
-    **dict.fromkeys(CALLED, calls_of),
 }
 # Counts of parameters fall up to 16 times at each command until they are solved apart.
 COUNTED = ("shift functions", "shift meets", "shift words in", "shift nested")
 # Ten commands for one of the straight script, or sets as wide as there are functions in each of two looks.
 DENSE = (
     "background", "callers", "calls in pipelines", "chain", "chain back", "chain of facts", "chain shuffled", "in a group", "losing alone", "losing circle",
-    "semicolons", "short in background", "trigger circle",
+    "semicolons", "short in background", "trigger circle", *CALLED,
 )
 
 
