@@ -741,8 +741,8 @@ sweep::sweep_compound-returns t c =
     let s = c.args.subject.now in
     record { swept = swept_more s _ _ _ _ _ c.in_ok-sweep_rounds.ensures.swept c.in_ok-lower_behind.ensures.swept }
 
-pub sweep::sweep_simple-returns-then-draft-entered : goal.sweep::sweep_simple-returns-then-draft-entered
-sweep::sweep_simple-returns-then-draft-entered t c = record { swept = swept_more c.args.subject.now _ _ _ _ _ c.in_ok-sweep_held.ensures.swept c.in_ok-lower_behind.ensures.swept }
+pub sweep::sweep_simple-returns-then-not-is_news : goal.sweep::sweep_simple-returns-then-not-is_news
+sweep::sweep_simple-returns-then-not-is_news t c = record { swept = swept_more c.args.subject.now _ _ _ _ _ c.in_ok-sweep_held.ensures.swept c.in_ok-lower_behind.ensures.swept }
 
 pub rounds::sweep_rounds-sweep_inside-requires : goal.rounds::sweep_rounds-sweep_inside-requires
 rounds::sweep_rounds-sweep_inside-requires = bodies.sweep_rounds-sweep_inside-requires
