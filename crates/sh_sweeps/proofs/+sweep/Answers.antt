@@ -36,9 +36,9 @@ use Rattle.sh_sweeps.proofs.SweepLemmas.{knows_follow, stands_of}
 use Rattle.sh_drafts.proofs.ReadyLemmas.{names_numbered, ready_again, swept_more, swept_none}
 use Rattle.sh_sweeps.proofs.WordLemmas.{Along, along_first, along_no_operands, along_no_parts, along_operands, along_parts, arithmetic_gained, arithmetic_placed, assigned_gained, assigned_placed, both_gained, case_word, chain_first, chain_gained, chain_rest, choice_condition, choice_gained, choice_no, choice_yes, clause_patterns, double_gained, double_placed, element_as, elements_first, elements_placed, expanded_gained, expanded_placed, expansion_gained, expansion_placed, expression_as, expression_gained, file_gained, file_placed, for_words_placed, gained_nowhere, here_gained, here_placed, if_ok, kind_as, kind_placed, link_expression, listed_placed, literal_gained, nothing_gained, operand_inside, operand_next, operand_placed, operands_next, parenthesis_gained, parenthesis_placed, part_as, part_gained, part_placed, pattern_placed, patterns_next, pieces_next, plain_gained, redirect_placed, redirection_next, redirection_placed, redirections_placed, redirects_next, remove_placed, signed_gained, signed_placed, substitution_placed, use_gained, use_placed, value_next, value_placed, word_placed, words_next}
 use Rattle.sh_sweeps.proofs.+sweep.Goals as goal
-use None as bodies
-use None as choices
-use None as words
+use Rattle.sh_sweeps.proofs.+sweep.Answers.Bodies as bodies
+use Rattle.sh_sweeps.proofs.+sweep.Answers.Choices as choices
+use Rattle.sh_sweeps.proofs.+sweep.Answers.Words as words
 
 pub sweep::enter_item-enter_process-requires : goal.sweep::enter_item-enter_process-requires
 unfolding facts_in
@@ -741,8 +741,8 @@ sweep::sweep_compound-returns t c =
     let s = c.args.subject.now in
     record { swept = swept_more s _ _ _ _ _ c.in_ok-sweep_rounds.ensures.swept c.in_ok-lower_behind.ensures.swept }
 
-pub sweep::sweep_simple-returns-then-draft-entered : goal.sweep::sweep_simple-returns-then-draft-entered
-sweep::sweep_simple-returns-then-draft-entered t c = record { swept = swept_more c.args.subject.now _ _ _ _ _ c.in_ok-sweep_held.ensures.swept c.in_ok-lower_behind.ensures.swept }
+pub sweep::sweep_simple-returns-then-not-is_news : goal.sweep::sweep_simple-returns-then-not-is_news
+sweep::sweep_simple-returns-then-not-is_news t c = record { swept = swept_more c.args.subject.now _ _ _ _ _ c.in_ok-sweep_held.ensures.swept c.in_ok-lower_behind.ensures.swept }
 
 pub rounds::sweep_rounds-sweep_inside-requires : goal.rounds::sweep_rounds-sweep_inside-requires
 rounds::sweep_rounds-sweep_inside-requires = bodies.sweep_rounds-sweep_inside-requires
