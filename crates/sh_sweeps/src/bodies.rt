@@ -84,9 +84,9 @@ fn sweep_unseen(
         return Ok(());
     }
     let looks = draft.looks;
+    let again = draft.again;
     sweep_function(subject, draft, levels, number)?;
-    let spent = draft.looks.saturating_sub(looks);
-    draft.again = draft.again.saturating_add(spent);
+    draft.again = again.saturating_add(draft.looks.saturating_sub(looks));
     Ok(())
 }
 
