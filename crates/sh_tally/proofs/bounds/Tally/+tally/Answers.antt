@@ -221,15 +221,14 @@ unfolding index_of
 turns-returns t c =
     let s = c.args.self.now in
     let b = s.script.now in
-    let n = in
     let y = walks.around b c.args.around.now in
-    let own = c.at-head.ensures n (names s) (Head c.args.number) (ap Some (sym c.of-turn.ensures)) in
+    let own = c.at-head.ensures (names s) (Head c.args.number) (ap Some (sym c.of-turn.ensures)) in
     subst (λ z. AddsKind s y c.args.number z c.args.inside c.args.equations.now c.leaves.new.equations) (sym (ap (trees.kind_of b) c.in-Loop.is ∙ rules.kind_of-Loop b c.in-Loop.kind c.in-Loop.condition c.in-Loop.body))
     (loop_kind s y (walks.around b c.in_loop-inner.result) c.args.number c.args.inside c.in-Loop.kind (trees.script_of b c.in-Loop.condition) (trees.script_of b c.in-Loop.body)
     c.at-head.result c.in_any_case-again.result c.in_ok-tested.tested c.turned-left.result c.in_ok-after.after c.both.result c.of-turn.result
     c.args.equations.now c.list.new.equations c.list-2.new.equations c.bound.new.equations c.bound-2.new.equations c.leaves.new.equations
-    (c.in_loop-inner.ensures b) c.of-turn.ensures own c.in_ok-tested.ensures.adds c.in_ok-tested.ensures.leaves (c.turned-left.ensures.turns n (names s)) (c.turned-left.ensures.ends n (names s))
-    c.in_ok-after.ensures.adds c.in_ok-after.ensures.leaves c.in_ok-bound.ensures (c.in_any_case-again.ensures n (names s)) c.in_ok-bound-2.ensures (c.both.ensures n (names s)) c.in_ok-leaves.ensures)
+    (c.in_loop-inner.ensures b) c.of-turn.ensures own c.in_ok-tested.ensures.adds c.in_ok-tested.ensures.leaves (c.turned-left.ensures.turns (names s)) (c.turned-left.ensures.ends (names s))
+    c.in_ok-after.ensures.adds c.in_ok-after.ensures.leaves c.in_ok-bound.ensures (c.in_any_case-again.ensures (names s)) c.in_ok-bound-2.ensures (c.both.ensures (names s)) c.in_ok-leaves.ensures)
 
 pub branch-returns-clause-adds : goal.branch-returns-clause-adds
 branch-returns-clause-adds t c =
