@@ -2,10 +2,10 @@
 ghost use Rattle.std.specs.Prelude.{◌≡◌};
 
 use crate::draft::Draft;
-use crate::target::Target;
 use crate::kept::drops_of;
 use crate::place::{Part, Place};
 use crate::subject::Subject;
+use crate::target::Target;
 use sh_domain::Drops;
 use sh_worklist::Waiting;
 use std::alloc::AllocError;

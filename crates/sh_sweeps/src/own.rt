@@ -13,8 +13,8 @@ ghost use Rattle.sh_drafts.specs.Ready.{IsReady, IsSwept, Keeps};
 ghost use Rattle.sh_drafts.specs.Turns.{AreNumbers, IsQuiet, Stands};
 ghost use Rattle.sh_sweeps.specs.Asked.{gathered_of};
 
-use crate::claims::claims_of;
 use crate::before::lower_before;
+use crate::claims::claims_of;
 use crate::gather::Gather;
 use crate::sides::Sides;
 use crate::stated::Unstated;

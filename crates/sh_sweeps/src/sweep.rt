@@ -21,7 +21,10 @@ ghost use Rattle.sh_drafts.specs.Ready.{IsReady, IsSwept};
 use crate::before::lower_before;
 use crate::bodies::{is_called_again, sweep_called};
 use crate::choices::{sweep_case, sweep_cond};
-use crate::known::{behind_pipe, entry_of, head_of, inside_of, pass_all, pass_link, pass_on, process_of, started_in, turn_of};
+use crate::known::{
+    behind_pipe, entry_of, head_of, inside_of, pass_all, pass_link, pass_on, process_of,
+    started_in, turn_of,
+};
 use crate::own::{lower_behind, lower_command};
 use crate::rounds::sweep_rounds;
 use crate::words::{sweep_elements, sweep_for_words, sweep_redirections};

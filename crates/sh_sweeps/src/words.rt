@@ -13,7 +13,9 @@ ghost use Rattle.sh_gains.specs.Knowing.{action_gains};
 ghost use Rattle.sh_sweeps.specs.Sweeps.{AreElements, Gained, IsIn, IsPart, IsWord};
 ghost use Rattle.sh_drafts.specs.Ready.{IsReady, IsSwept};
 
-use crate::known::{before_of, behind_action, behind_assigned, behind_operands, behind_word, operand_of, started_in};
+use crate::known::{
+    before_of, behind_action, behind_assigned, behind_operands, behind_word, operand_of, started_in,
+};
 use crate::sweep::sweep_list;
 use sh_domain::{FlowRule, Knowledge};
 use sh_drafts::inner::{is_in_redirects, is_in_word};
