@@ -35,6 +35,11 @@ def straight(size):
     return text_of(joined(lines, size))
 
 
+def straight_short(size):
+    """The same with four commands for one."""
+    return text_of(joined([f'v{number % 3000}=x; a "$v{number % 3000}"; b' for number in range(size // 15)], size))
+
+
 def count_of(size, sample, most=MOST_NAMES):
     """How many lines of the length of a sample fit."""
     return max(2, min(most, size // (len(sample) + 1)))
@@ -489,40 +494,35 @@ def rounds_of(text, _lines):
     return text.count("unset -f")
 
 
-def definitions_of(text, _lines):
-    """Each definition has all calls noted."""
-    return text.count("f()") / 10
-
-
 def findings_of(text, lines):
     """A finding takes a quarter of what a line of a straight script does."""
     return lines / straight(len(text)).count("\n") / 4 / MOST_RATIO
 
 
-# Functions that call one helper, and are called in turn.
-CALLED = ("entries by functions", "entries by recursion", "entries in a loop", "entries in conditions", "entries of functions", "entries of long bodies")
-# How often MOST_RATIO a family may take. In the first four it is inherent.
+# How often MOST_RATIO a family may take if what it has to find grows faster than its text.
 ROUNDS = {
     "triggers": rounds_of,
     "trigger calls": rounds_of,
     "told by parts": findings_of,
     "told in parts of parts": findings_of,
-    "defined again, then called": definitions_of,
 }
-# Counts of parameters fall up to 16 times at each command until they are solved apart.
-COUNTED = ("shift functions", "shift meets", "shift words in", "shift nested")
-# Ten commands for one of the straight script, or sets as wide as there are functions in each of two looks.
-DENSE = (
-    "background", "callers", "calls in pipelines", "chain", "chain back", "chain of facts", "chain shuffled", "in a group", "losing alone", "losing circle",
-    "semicolons", "short in background", "trigger circle", *CALLED,
-)
+# Families of short commands, which are held to a straight script of short commands.
+SHORT = {
+    "background", "callers", "calls in pipelines", "chain", "chain back", "chain of facts", "chain shuffled", "complete", "defined again, then called",
+    "entries by functions", "entries by recursion", "entries in a loop", "entries in conditions", "entries of functions", "entries of long bodies",
+    "in a group", "losing alone", "losing circle", "recursion", "semicolons", "shift functions", "shift meets", "shift words in", "shift nested",
+    "short in background", "trigger circle",
+}  # fmt: skip
+
+
+def straight_beside(name, size):
+    """The straight script that a family is held to."""
+    return (straight_short if name in SHORT else straight)(size)
 
 
 def limit_of(name, text, lines):
-    """How many times as long as a straight script of the same size a family may take, by its text and the lines of its answer."""
-    if name in ROUNDS:
-        return MOST_RATIO * max(1, ROUNDS[name](text, lines))
-    return MOST_RATIO * (5 if name in COUNTED else 2 if name in DENSE else 1)
+    """How many times as long as its straight script a family may take, by its text and the lines of its answer."""
+    return MOST_RATIO * max(1, ROUNDS[name](text, lines)) if name in ROUNDS else MOST_RATIO
 
 
 def certificate_limit(limit, text, certificate):

@@ -41,6 +41,7 @@ pub fn lower_at(
     ensures swept { IfOk result (λ unit. IsSwept subject.now draft.old.certificate draft.new.certificate draft.new.probe.count) }
     ensures fits { IfOk result (λ unit. ClaimStays draft.new.certificate place (sight_facts known.now) (sets_in subject.now.writable.now.vars subject.now.writable.now.functions)) }
 {
+    let before = facts_at(&draft.certificate, place);
     let is_lowered = lower(
         subject.names,
         subject.writable,
@@ -49,7 +50,7 @@ pub fn lower_at(
         place,
         known,
     )?;
-    note_place(subject, draft, place, is_lowered)?;
+    note_place(subject, draft, place, before, is_lowered)?;
     Ok(())
 }
 

@@ -15,7 +15,9 @@ pub struct Draft {
     pub probe: BitRow,
     /// How often it was lowered so far: a hint.
     pub lowered: u64,
-    /// If it was lowered more often than this, the counts are solved apart: a hint.
+    /// How often nothing fell at a place except its count of parameters: a hint.
+    pub counted: u64,
+    /// If counts fell more often than this, they are solved apart: a hint.
     pub rest: u64,
     /// How often the flow rules of a command were gone through so far: nothing depends on it.
     pub looks: u64,
@@ -27,20 +29,20 @@ pub struct Draft {
     pub waiting: Waiting,
 }
 
-// How often a certificate is lowered for each command until the counts are solved apart.
-const TIMES: u64 = 16;
+// How often counts fall for each command until they are solved apart.
+const TIMES: u64 = 4;
 
-/// How often a certificate of so many commands may be lowered until the counts are solved apart, if
-/// it was lowered so often so far: a hint.
-pub fn rest_after(lowered: u64, commands: usize) -> u64 {
+/// How often the counts of so many commands may fall until they are solved apart, if they fell so
+/// often so far: a hint.
+pub fn rest_after(counted: u64, commands: usize) -> u64 {
     let times = (commands as u64).saturating_add(8).saturating_mul(TIMES);
-    lowered.saturating_add(times)
+    counted.saturating_add(times)
 }
 
 impl Draft {
-    /// Whether it was lowered so often that the counts are to be solved apart: a hint.
+    /// Whether the counts fell so often that they are to be solved apart: a hint.
     pub fn is_tired(&self) -> bool {
-        self.lowered > self.rest
+        self.counted > self.rest
     }
 
     /// Whether a call goes over a body of the function at once, though a pass over it has ended: a

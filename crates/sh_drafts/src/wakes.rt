@@ -2,11 +2,11 @@
 ghost use Rattle.std.specs.Prelude.{◌≡◌};
 
 use crate::draft::Draft;
-use crate::kept::drops_of;
+use crate::kept::{drops_of, facts_at};
 use crate::place::{Part, Place};
 use crate::subject::Subject;
 use crate::target::Target;
-use sh_domain::Drops;
+use sh_domain::{Drops, Facts, RowId};
 use sh_worklist::Waiting;
 use std::alloc::AllocError;
 
@@ -32,7 +32,22 @@ fn wake_place(
     }
 }
 
-/// Notes whether what is claimed at a place was lowered, and has those wait that look at it.
+// The rows of facts.
+fn rows_of(facts: Option<Facts>) -> Option<(RowId, RowId)> {
+    match facts {
+        Some(
+            Facts::Known {
+                vars,
+                functions,
+                ..
+            },
+        ) => Some((vars, functions)),
+        _ => None,
+    }
+}
+
+/// Notes whether what is claimed at a place was lowered, which was this before, and has those wait
+/// that look at it.
 ///
 /// # Errors
 ///
@@ -41,6 +56,7 @@ pub fn note_place(
     subject: &Subject<'_>,
     draft: &mut Draft,
     place: Place,
+    before: Option<Facts>,
     is_lowered: bool,
 ) -> Result<(), AllocError>
     ensures certificate { draft.new.certificate ≡ draft.old.certificate }
@@ -50,6 +66,9 @@ pub fn note_place(
         return Ok(());
     }
     draft.lowered = draft.lowered.saturating_add(1);
+    let now = facts_at(&draft.certificate, place);
+    let is_count = now != before && rows_of(now) == rows_of(before);
+    draft.counted = draft.counted.saturating_add(u64::from(is_count));
     wake_place(subject, &mut draft.waiting, place)
 }
 
@@ -62,13 +81,14 @@ pub fn note_lowered(
     subject: &Subject<'_>,
     draft: &mut Draft,
     target: Target,
+    before: Option<Facts>,
     drops: Option<Drops>,
     is_lowered: bool,
 ) -> Result<(), AllocError>
     ensures certificate { draft.new.certificate ≡ draft.old.certificate }
     ensures probe { draft.new.probe ≡ draft.old.probe }
 {
-    note_place(subject, draft, target.place, is_lowered)?;
+    note_place(subject, draft, target.place, before, is_lowered)?;
     if drops_of(&draft.certificate, target.function) != drops {
         draft.waiting.wait_calls(target.function as usize)?;
     }

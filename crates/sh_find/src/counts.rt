@@ -131,7 +131,7 @@ fn lower_count(
         place,
         &known,
     )?;
-    note_place(subject, draft, place, is_lowered)?;
+    note_place(subject, draft, place, None, is_lowered)?;
     Ok(())
 }
 

@@ -48,6 +48,7 @@ fn filled(alloc: Global, subject: &Subject<'_>) -> Result<Certificate, AllocErro
         certificate,
         probe,
         lowered: 0,
+        counted: 0,
         rest: 0,
         looks: 0,
         again: 0,

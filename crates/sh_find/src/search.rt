@@ -48,7 +48,7 @@ fn sweep_by_need(subject: &Subject<'_>, draft: &mut Draft) -> Result<(), AllocEr
             return Ok(());
         }
         solve_counts(subject, draft)?;
-        draft.rest = rest_after(draft.lowered, subject.commands.len());
+        draft.rest = rest_after(draft.counted, subject.commands.len());
         draft.waiting.wait_all();
     }
     Ok(())
@@ -116,6 +116,7 @@ fn settled(alloc: Global, subject: &Subject<'_>, way: Way) -> Result<(Certificat
         certificate,
         probe,
         lowered: 0,
+        counted: 0,
         rest: rest_after(0, subject.commands.len()),
         looks: 0,
         again: 0,

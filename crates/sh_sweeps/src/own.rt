@@ -104,6 +104,7 @@ fn lower_once(
     ensures swept { IfOk result (λ answer. IsSwept subject.now draft.old.certificate draft.new.certificate draft.new.probe.count) }
 {
     let is_first = is_unentered(&*draft, target.place);
+    let before = facts_at(&draft.certificate, target.place);
     let drops = drops_of(&draft.certificate, target.function);
     let gather = asked_of(
         subject,
@@ -121,7 +122,7 @@ fn lower_once(
         &mut draft.probe,
         &gather,
     )?;
-    note_lowered(subject, draft, target, drops, is_lowered)?;
+    note_lowered(subject, draft, target, before, drops, is_lowered)?;
     draft.entered = draft
         .entered
         .saturating_add(u64::from(is_lowered && is_first));
@@ -219,6 +220,7 @@ fn lower_first(subject: &Subject<'_>, draft: &mut Draft, sides: &Sides) -> Resul
     ensures swept { IfOk result (λ unit. IsSwept subject.now draft.old.certificate draft.new.certificate draft.new.probe.count) }
 {
     let target = sides.gather.target;
+    let before = facts_at(&draft.certificate, target.place);
     let drops = drops_of(&draft.certificate, target.function);
     let is_lowered = lower_gathered(
         subject.names,
@@ -227,7 +229,7 @@ fn lower_first(subject: &Subject<'_>, draft: &mut Draft, sides: &Sides) -> Resul
         &mut draft.probe,
         &sides.gather,
     )?;
-    note_lowered(subject, draft, target, drops, is_lowered)?;
+    note_lowered(subject, draft, target, before, drops, is_lowered)?;
     Ok(())
 }
 
