@@ -10,6 +10,7 @@ use Rattle.sh_tree.specs.standard.program.Trees.{script_of}
 use Rattle.sh_table.specs.Admitted.{is_admitted}
 use Rattle.sh_table.specs.Profile.{first_refused}
 use Rattle.sh_table.proofs.AdmittedLemmas.{admitted_as_listed}
+use Rattle.sh_domain.proofs.GivenLemmas.{read_has_rows}
 use Rattle.sh_domain.specs.Facts.{Declared}
 use Rattle.sh_domain.specs.Sheets.{Sheet}
 use Rattle.sh_sound.proofs.ScriptLemmas.{scripts_have_no_events}
@@ -28,11 +29,13 @@ admitted t h = admitted_as_listed t ∙ ap (λ o. not (is_some o)) h
 pub safe : (b : List ℕ) (d : Declared) (c : Sheet) → list_all is_name d.names ≡ true → IsAccepted b d c → IsSafe b d
 safe b d c names a =
     let read : Reads b a.tree = reads_within b a.tree a.admitted.reading.1 in
+    let program = admitted (script_of b a.tree) a.admitted.profile in
     record {
       tree = a.tree;
       reads = read;
       only = a.admitted.reading.2;
-      runs = scripts_have_no_events d (claims_in b a.tree c) b a.tree names read (admitted (script_of b a.tree) a.admitted.profile) a.rules a.met a.quoted;
+      runs = scripts_have_no_events d (claims_in b a.tree c) b a.tree names read program a.rules a.met a.quoted;
+      rows = λ e f start moves w ran n r at. read_has_rows b a.tree read program e f moves w start.functions ran n r at;
     }
 
 pub headline : Headline

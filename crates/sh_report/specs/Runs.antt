@@ -1,6 +1,6 @@
 -- What a run of the engine reads and writes.
 -- shset's own; the standard has no linter.
-use Rattle.std.specs.Prelude.{◌≡◌, ℕ, List, [], take, Option}
+use Rattle.std.specs.Prelude.{◌≡◌, ℕ, ◌<◌, List, [], length, take, Option}
 use Rattle.std.specs.Io.KnownBytes.{Appends}
 use Rattle.sh_answers.specs.Moves.{Had}
 use Rattle.sh_answers.specs.declared.task.Action.{Action}
@@ -29,10 +29,11 @@ pub record WritesAnswer (task : Task) (b certificate : List ℕ) (old new : Opti
   pub tells : Tells task.action b certificate task.policy text status
   pub written : Appends old new text
 
--- a front of the text of such an answer was written
+-- a front of the text of such an answer was written, and not the whole
 pub record WritesFront (task : Task) (b certificate : List ℕ) (old new : Option (List ℕ)) : Type 0 where
   pub text : List ℕ
   pub status : ℕ
   pub tells : Tells task.action b certificate task.policy text status
   pub count : ℕ
+  pub some_left : count < length text
   pub written : Appends old new (take count text)

@@ -2,7 +2,11 @@
 //! command line asks for, and ends with its status.
 #![tactic(auto)]
 
+ghost use Rattle.std.specs.Prelude.{ℕ, List, [], IfOk};
 ghost use Rattle.std.specs.Process.{exit_status};
+ghost use Rattle.sh_answers.specs.Moves.{Had};
+ghost use Rattle.sh_report.specs.Promises.{EndsSafe};
+ghost use Rattle.sh_report.specs.Runs.{HadText, certificate_read, script_read};
 ghost use Rattle.shset.specs.Endings.{IsStatusOf};
 
 mod ending;
@@ -43,7 +47,10 @@ fn run_over<R: Print + AllocGlobal, S: Read + Drop, C: Read + Drop>(
     line: &Line<'_>,
     script: S,
     certificate: C,
-) -> Result<u8, Fault> {
+) -> Result<u8, Fault>
+    ensures { IfOk result (λ status. (b t : List ℕ) → Had (S.remaining script) script_read b → HadText line.now.task.action (C.remaining certificate) certificate_read t
+        → EndsSafe line.now.task b status) }
+{
     let mut script = Counted::new(script);
     let mut certificate = Counted::new(certificate);
     let mut out = Counted::new(io::writer(rt));
