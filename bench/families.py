@@ -506,18 +506,14 @@ ROUNDS = {
     "told by parts": findings_of,
     "told in parts of parts": findings_of,
 }
-# Families of short commands, which are held to a straight script of short commands.
-SHORT = {
-    "background", "callers", "calls in pipelines", "chain", "chain back", "chain of facts", "chain shuffled", "complete", "defined again, then called",
-    "entries by functions", "entries by recursion", "entries in a loop", "entries in conditions", "entries of functions", "entries of long bodies",
-    "in a group", "losing alone", "losing circle", "recursion", "semicolons", "shift functions", "shift meets", "shift words in", "shift nested",
-    "short in background", "trigger circle",
-}  # fmt: skip
+# A script has short commands if it has more than one for so many bytes.
+LONG_COMMAND = 14
 
 
-def straight_beside(name, size):
-    """The straight script that a family is held to."""
-    return (straight_short if name in SHORT else straight)(size)
+def straight_beside(text):
+    """The straight script that a family is held to: as long, and of short commands if the family's are short."""
+    commands = sum(text.count(sign) for sign in ";\n|&(")
+    return (straight_short if len(text) < LONG_COMMAND * commands else straight)(len(text))
 
 
 def limit_of(name, text, lines):

@@ -333,7 +333,7 @@ def measure_family(name, folder):
     is_good, before = True, {}
     for times in (1, 2, 4):
         text = made(FAMILY_SIZE * times)
-        for at, content in ((path, text), (beside, straight_beside(name, len(text)))):
+        for at, content in ((path, text), (beside, straight_beside(text))):
             with open(at, "w", encoding="ascii") as file:
                 file.write(content)
         plain = {action: take(words) for action, words in family_runs((), beside).items()}
