@@ -1,5 +1,5 @@
 -- Rows that are kept once: the row that is found, and the rows that stay.
-use Rattle.std.proofs.Common.{◌≡◌, ℕ, zero, suc, ◌<◌, ◌≤◌, Bool, true, false, ◌&&◌, if◌then◌else◌, Some, None, List, [], ◌∷◌, ◌++◌, length, get_or, position, refl, sym, ◌∙◌, ap, arith, rules, eqb, slice_get, subst, unwrap_or}
+use Rattle.std.proofs.Common.{◌≡◌, ◌↔◌, None, true≢false, is_some, ℕ, zero, suc, ◌<◌, ◌≤◌, Bool, true, false, ◌&&◌, if◌then◌else◌, Some, None, List, [], ◌∷◌, ◌++◌, length, get_or, position, refl, sym, ◌∙◌, ap, arith, rules, eqb, slice_get, subst, unwrap_or}
 use Rattle.std.specs.List.{All, list_any}
 use Rattle.std.proofs.lemmas.Grind.{common_steps}
 use Rattle.std.proofs.lemmas.List.{get_or_append_left, length-append}
@@ -41,6 +41,35 @@ found_bits rows row i h k =
     let p = position-Some (equal row) rows i row (sym h) in
     let words : row.words.items ≡ (get_or rows i row).words.items = equal_words row (get_or rows i row) p.1 in
     bits_at rows i (get_or rows i row) (slice_get-get_or rows i row p.0) k ∙ ap (λ ws. has_bit k ws) (sym words)
+
+-- the test of the row at a place
+pointwise_same : (a b : List ℕ) → pointwise eqb a b ≡ true → a ≡ b
+pointwise_same a b e = search rules
+
+pub is_row : (rows : List BitRow) (kept row : BitRow) (i : ℕ) (t : Bool) → Some kept ≡ slice_get rows i → t ≡ pointwise eqb kept.words.items row.words.items
+    → (t ≡ true) ↔ ((r : BitRow) × (slice_get rows i ≡ Some r) × (r.words.items ≡ row.words.items))
+is_row rows kept row i t there test = (
+  λ e. (kept, sym there, pointwise_same kept.words.items row.words.items (sym test ∙ e)),
+  λ found.
+      let same : kept ≡ found.0 = ap (λ o. unwrap_or o kept) (there ∙ found.1) in
+      let words : kept.words.items ≡ row.words.items = ap (λ (r : BitRow). r.words.items) same ∙ found.2 in
+      test ∙ rw words (pointwise_itself row.words.items),
+)
+
+pub no_row : (rows : List BitRow) (row : BitRow) (i : ℕ) → None ≡ slice_get rows i
+    → (false ≡ true) ↔ ((r : BitRow) × (slice_get rows i ≡ Some r) × (r.words.items ≡ row.words.items))
+no_row rows row i none = (
+  λ e. absurd (true≢false (sym e)),
+  λ found. absurd (true≢false (sym (ap is_some (none ∙ found.1)))),
+)
+
+-- a row that is at a place
+pub has_bits : (rows : List BitRow) (row : BitRow) (i : ℕ) → ((r : BitRow) × (slice_get rows i ≡ Some r) × (r.words.items ≡ row.words.items))
+    → (k : ℕ) → holds_at rows i k ≡ bits_of row k
+has_bits rows row i found k = bits_at rows i found.0 found.1 k ∙ ap (λ ws. has_bit k ws) found.2
+
+pub is_there : (rows : List BitRow) (row : BitRow) (i : ℕ) → ((r : BitRow) × (slice_get rows i ≡ Some r) × (r.words.items ≡ row.words.items)) → i < length rows
+is_there rows row i found = slice_get_within rows i found.0 found.1
 
 -- if a row is not found, none of its words is there
 pub not_there : (rows : List BitRow) (row : BitRow) (i : ℕ) (r : BitRow) (n : ℕ) → false ≡ list_any (equal row) rows → All (λ s. s.count ≡ n) rows → row.count ≡ n

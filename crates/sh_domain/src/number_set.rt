@@ -13,7 +13,10 @@ ghost use Rattle.sh_domain.specs.NumberSets.{numbers_of};
 
 use crate::names::Names;
 use crate::rows::{RowId, Rows};
-use sh_rows::{is_set, join_words, meet_words, remove_words, set, unset, within_words};
+use sh_rows::{
+    is_set, is_set_within, join_words, meet_sets, remove_sets, remove_words, set, unset,
+    within_words,
+};
 
 /// Numbers below `MAX_NAMES`: number n is bit n modulo 64 of word n divided by 64.
 #[derive(Clone, Copy, Debug, PartialEq, Eq)]
@@ -45,10 +48,10 @@ impl NumberSet {
         requires { count ≤ MAX_NAMES }
         ensures { (k : ℕ) → numbers_of result k ≡ nat_lt k count }
     {
-        let full = count / 64;
-        let mut set = NumberSet::of_words(full as usize);
-        for n in full * 64..count {
-            set.add(n);
+        let full = (count / 64) as usize;
+        let mut set = NumberSet::of_words(full);
+        if full < 64 {
+            set.words[full] = (1u64 << (count % 64)) - 1;
         }
         set
     }
@@ -120,21 +123,21 @@ impl NumberSet {
     pub fn meet(&mut self, other: &NumberSet)
         ensures { (k : ℕ) → numbers_of self.new k ≡ (numbers_of other.now k && numbers_of self.old k) }
     {
-        meet_words(&mut self.words, &other.words);
+        meet_sets(&mut self.words, &other.words);
     }
 
     /// Takes out the numbers of another set.
     pub fn remove(&mut self, other: &NumberSet)
         ensures { (k : ℕ) → numbers_of self.new k ≡ (not (numbers_of other.now k) && numbers_of self.old k) }
     {
-        remove_words(&mut self.words, &other.words);
+        remove_sets(&mut self.words, &other.words);
     }
 
     /// Whether each number of the set is in another.
     pub fn is_within(&self, other: &NumberSet) -> bool
         ensures { IsTrue result ↔ ((k : ℕ) → numbers_of self.now k ≡ true → numbers_of other.now k ≡ true) }
     {
-        within_words(&self.words, &other.words)
+        is_set_within(&self.words, &other.words)
     }
 }
 
@@ -184,10 +187,8 @@ impl NumberSet {
     pub fn meet_row(&mut self, rows: &Rows, id: RowId)
         ensures { (k : ℕ) → numbers_of self.new k ≡ (holds_at rows.now.rows id.index k && numbers_of self.old k) }
     {
-        match rows.row(id) {
-            Some(row) => meet_words(&mut self.words, row.words()),
-            None => *self = NumberSet::new(),
-        }
+        let beside = NumberSet::of_row(rows, id);
+        self.meet(&beside);
     }
 
     /// Takes out the numbers of the row of a place.
@@ -209,22 +210,28 @@ impl NumberSet {
         }
     }
 
+    // The numbers of the row of a place, of those below `MAX_NAMES`.
+    fn of_row(rows: &Rows, id: RowId) -> NumberSet
+        ensures { (k : ℕ) → k < MAX_NAMES → numbers_of result k ≡ holds_at rows.now.rows id.index k }
+    {
+        let mut set = NumberSet::new();
+        set.join_row(rows, id);
+        set
+    }
+
     /// Becomes the set of the numbers of the row of a place, of those below `MAX_NAMES`.
     pub fn set_row(&mut self, rows: &Rows, id: RowId)
         ensures { (k : ℕ) → k < MAX_NAMES → numbers_of self.new k ≡ holds_at rows.now.rows id.index k }
     {
-        *self = NumberSet::new();
-        self.join_row(rows, id);
+        *self = NumberSet::of_row(rows, id);
     }
 
     /// Whether each number of the set is in the row of a place.
     pub fn is_in_row(&self, rows: &Rows, id: RowId) -> bool
         ensures { IsTrue result ↔ ((k : ℕ) → numbers_of self.now k ≡ true → holds_at rows.now.rows id.index k ≡ true) }
     {
-        match rows.row(id) {
-            Some(row) => within_words(&self.words, row.words()),
-            None => within_words(&self.words, &[]),
-        }
+        let beside = NumberSet::of_row(rows, id);
+        self.is_within(&beside)
     }
 
     /// Whether each number of the row of a place is in the set, and so each of its names.

@@ -1,5 +1,5 @@
 //! Rows that are kept once.
-ghost use Rattle.std.specs.Prelude.{◌≡◌, ◌<◌, ◌≤◌, ◌+◌, ◌-◌, ℕ, [], Some, length, slice_get, IfOk, IfSome, OnErr, IsOk};
+ghost use Rattle.std.specs.Prelude.{◌≡◌, ◌<◌, ◌≤◌, ◌+◌, ◌-◌, ◌↔◌, ℕ, [], Some, length, slice_get, IfOk, IfSome, OnErr, IsOk, IsTrue};
 ghost use Rattle.std.specs.Option.{option_copied};
 ghost use Rattle.sh_rows.specs.declared.bits.BitRow.{BitRow};
 ghost use Rattle.sh_domain.specs.KeptRows.{Stay, bits_of, holds_at};
@@ -85,6 +85,16 @@ impl Rows {
         let own = row.copy()?;
         let (index, _) = self.set.insert_full(own)?;
         Ok(RowId { index })
+    }
+
+    /// Whether the row of a place has the same numbers as this one.
+    pub fn is_at(&self, id: RowId, row: &BitRow) -> bool
+        ensures { IsTrue result ↔ ((r : BitRow) × (slice_get self.now.rows id.index ≡ Some r) × (r.words.items ≡ row.now.words.items)) }
+    {
+        match self.set.get_index(id.index) {
+            Some(kept) => kept.words() == row.words(),
+            None => false,
+        }
     }
 
     /// Whether a number is in the row of a place. If there is no row, it is not.

@@ -10,8 +10,27 @@ use sh_domain::{Facts, NumberSet, RowId, Rows};
 use sh_rows::BitRow;
 use std::alloc::AllocError;
 
-// The place of a row of these numbers, which is added if there is none.
-fn intern(rows: &mut Rows, probe: &mut BitRow, numbers: &NumberSet) -> Result<RowId, AllocError>
+// The rows of facts, or the first: hints.
+fn rows_of(facts: Facts) -> (RowId, RowId) {
+    match facts {
+        Facts::NotReached => (RowId { index: 0 }, RowId { index: 0 }),
+        Facts::Known {
+            vars,
+            functions,
+            ..
+        } => (vars, functions),
+    }
+}
+
+// The place of a row of these numbers, which is added if there is none. It is likely one of these
+// two: to compare them takes less than to look the row up.
+fn intern(
+    rows: &mut Rows,
+    probe: &mut BitRow,
+    numbers: &NumberSet,
+    first: RowId,
+    second: RowId,
+) -> Result<RowId, AllocError>
     requires probed { probe.old.count ≡ rows.old.count }
     requires below { (k : ℕ) → numbers_of numbers.now k ≡ true → k < rows.old.count }
     ensures found { IfOk result (λ id. (k : ℕ) → holds_at rows.new.rows id.index k ≡ numbers_of numbers.now k) }
@@ -21,15 +40,28 @@ fn intern(rows: &mut Rows, probe: &mut BitRow, numbers: &NumberSet) -> Result<Ro
     ensures probed { probe.new.count ≡ probe.old.count }
 {
     probe.copy_from(numbers.words());
+    if rows.is_at(first, probe) {
+        return Ok(first);
+    }
+    if rows.is_at(second, probe) {
+        return Ok(second);
+    }
     rows.intern(probe)
 }
 
-/// The facts that are seen, by the places of their rows. A row that is not there is added.
+/// The facts that are seen, by the places of their rows. A row that is not there is added. Their rows
+/// are likely those of one of these two facts.
 ///
 /// # Errors
 ///
 /// If a growth was refused.
-pub fn keep(rows: &mut Rows, probe: &mut BitRow, sight: &Sight) -> Result<Facts, AllocError>
+pub fn keep(
+    rows: &mut Rows,
+    probe: &mut BitRow,
+    sight: &Sight,
+    first: Facts,
+    second: Facts,
+) -> Result<Facts, AllocError>
     requires probed { probe.old.count ≡ rows.old.count }
     requires named { IsNamed rows.old.count (sight_facts sight.now) }
     ensures stay { Stay rows.old.rows rows.new.rows }
@@ -38,8 +70,10 @@ pub fn keep(rows: &mut Rows, probe: &mut BitRow, sight: &Sight) -> Result<Facts,
     ensures placed { IfOk result (λ f. IsPlaced (length rows.new.rows) f) }
     ensures facts { IfOk result (λ f. fact_of rows.new.rows f ≡ sight_facts sight.now) }
 {
-    let vars = intern(rows, probe, &sight.vars)?;
-    let functions = intern(rows, probe, &sight.functions)?;
+    let first = rows_of(first);
+    let second = rows_of(second);
+    let vars = intern(rows, probe, &sight.vars, first.0, second.0)?;
+    let functions = intern(rows, probe, &sight.functions, first.1, second.1)?;
     Ok(Facts::Known {
         vars,
         functions,

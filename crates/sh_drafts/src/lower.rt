@@ -12,12 +12,29 @@ ghost use Rattle.sh_drafts.specs.Writable.{IsWritten, sets_in};
 
 use crate::kept::{drops_of, facts_at, put, put_drops};
 use crate::kept_rows::{is_within, keep, meet_facts};
-use crate::place::Place;
+use crate::place::{Part, Place};
 use crate::sight::Sight;
 use crate::writable::Writable;
 use sh_domain::{Certificate, Drops, Facts, Names, NumberSet, RowId, Rows};
 use sh_rows::BitRow;
 use std::alloc::AllocError;
+
+// What is claimed at a place of the command, or of the one before it, that a sweep comes to first: a
+// hint.
+fn facts_near(certificate: &Certificate, place: Place) -> Facts {
+    let index = match place.part {
+        Part::Before => place.index.saturating_sub(1),
+        _ => place.index,
+    };
+    let Some(entry) = certificate.entries.get(index as usize) else {
+        return Facts::NotReached;
+    };
+    if place.part == Part::Zero {
+        entry.before
+    } else {
+        entry.zero
+    }
+}
 
 /// Puts the claim of a place to what it and what is known there both claim; says whether it did. It
 /// does so if the place is there and claims more, and what is left names only what a text of a
@@ -58,7 +75,8 @@ pub fn lower(
     if !writable.has(&left.vars, &left.functions) {
         return Ok(false);
     }
-    let kept = keep(&mut certificate.rows, probe, &left)?;
+    let near = near(certificate, place);
+    let kept = keep(&mut certificate.rows, probe, facts, near, &left)?;
     put(certificate, place, kept)?;
     Ok(true)
 }
@@ -105,12 +123,14 @@ fn are_in_rows(rows: &Rows, drops: Drops, vars: &NumberSet, functions: &NumberSe
     vars.is_in_row(rows, drops.vars) && functions.is_in_row(rows, drops.functions)
 }
 
-// The places of rows of these variables and these functions. A row that is not there is added.
+// The places of rows of these variables and these functions. A row that is not there is added. One
+// of them is likely kept so far.
 fn keep_drops(
     rows: &mut Rows,
     probe: &mut BitRow,
     vars: NumberSet,
     functions: NumberSet,
+    kept: Drops,
 ) -> Result<Drops, AllocError>
     requires probed { probe.old.count ≡ rows.old.count }
     requires below { AreBelow rows.old.count (sets_in vars functions) }
@@ -126,7 +146,12 @@ fn keep_drops(
         functions,
         args: 0,
     };
-    match keep(rows, probe, &sight)? {
+    let near = Facts::Known {
+        vars: kept.vars,
+        functions: kept.functions,
+        args: 0,
+    };
+    match keep(rows, probe, &sight, near, near)? {
         Facts::NotReached => unreachable!(),
         Facts::Known {
             vars,
@@ -176,7 +201,7 @@ pub fn count(
     if !writable.has(&vars, &functions) {
         return Ok(false);
     }
-    let kept = keep_drops(&mut certificate.rows, probe, vars, functions)?;
+    let kept = keep_drops(&mut certificate.rows, probe, vars, functions, drops)?;
     put_drops(certificate, index, kept);
     Ok(true)
 }

@@ -19,15 +19,14 @@ pub fn sight_of(names: &Names, assured: &Assured) -> Sight
     ensures { sight_facts result ≡ by_number names.now (assured_facts names.now assured.now) }
 {
     let all = NumberSet::below(names.count());
-    let mut vars = all;
-    vars.meet(assured.vars());
-    let mut functions = all;
-    functions.meet(assured.functions());
-    Sight {
-        vars,
-        functions,
+    let mut sight = Sight {
+        vars: all,
+        functions: all,
         args: assured.args(),
-    }
+    };
+    sight.vars.meet(assured.vars());
+    sight.functions.meet(assured.functions());
+    sight
 }
 
 // Leaves of what is known what is assured too.

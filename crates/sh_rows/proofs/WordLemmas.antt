@@ -304,6 +304,86 @@ not_within_whole words other front shared is not_front all =
     let long = is.long in
     not_front (λ k low lt. ap (without (get_or words k 0)) (is.same k (omega arith)) ∙ all k)
 
+-- two lists of words, word by word
+words_met : (a b : List ℕ) → length a ≡ length b → (k : ℕ) → get_or (zip2 bit_and a b) k 0 ≡ bit_and (get_or a k 0) (get_or b k 0)
+words_met a b same k =
+    let long = length-zip2 bit_and a b same in
+    ⊎_elim
+    (λ (h : k < length a). get_or-zip2 bit_and a b k 0 0 0 h (omega arith))
+    (λ (h : length a ≤ k).
+    let none : get_or a k 0 ≡ 0 = get_or_past a k 0 h in
+    get_or_past (zip2 bit_and a b) k 0 (omega arith) ∙ sym (ap (λ w. bit_and w (get_or b k 0)) none ∙ zero_and (get_or b k 0)))
+    (cases_lt k (length a))
+
+words_without : (a b : List ℕ) → length a ≡ length b → (k : ℕ) → get_or (zip2 bit_and a (map (bit_not w64) b)) k 0 ≡ without (get_or a k 0) (get_or b k 0)
+words_without a b same k =
+    let turned : length (map (bit_not w64) b) ≡ length b = length-map b (bit_not w64) in
+    words_met a (map (bit_not w64) b) (same ∙ sym turned) k
+    ∙ ⊎_elim
+    (λ (h : k < length a). ap (bit_and (get_or a k 0)) (get_or-map (bit_not w64) b k 0 0 (omega arith)))
+    (λ (h : length a ≤ k).
+    let none : get_or a k 0 ≡ 0 = get_or_past a k 0 h in
+    ap (λ w. bit_and w (get_or (map (bit_not w64) b) k 0)) none ∙ zero_and (get_or (map (bit_not w64) b) k 0)
+    ∙ sym (ap (λ w. without w (get_or b k 0)) none ∙ zero_and (bit_not w64 (get_or b k 0))))
+    (cases_lt k (length a))
+
+-- the first 64 of 64 words are all of them
+all_taken : (ws : List ℕ) → length ws ≡ 64 → (k : ℕ) → get_or (take 64 ws) k 0 ≡ get_or ws k 0
+all_taken ws long k =
+    let front : length (take 64 ws) ≡ 64 = length-take-le 64 ws (omega arith) in
+    ⊎_elim
+    (λ (h : k < 64). get_or-take 64 ws k 0 h)
+    (λ (h : 64 ≤ k). get_or_past (take 64 ws) k 0 (omega arith) ∙ sym (get_or_past ws k 0 (omega arith)))
+    (cases_lt k 64)
+
+-- 64 words that were all written
+all_put : (ws made : List ℕ) → length ws ≡ 64 → length made ≡ 64 → (k : ℕ) → get_or (put_chunk 0 ws made) k 0 ≡ get_or made k 0
+all_put ws made long same k =
+    ⊎_elim
+    (λ (h : k < 64).
+    let e : 0 + k ≡ k = omega arith in
+    ap (λ m. get_or (put_chunk 0 ws made) m 0) (sym e) ∙ get_or-put_chunk_at 0 ws made k 0 (omega arith) (omega arith))
+    (λ (h : 64 ≤ k). get_or-put_chunk_above 0 ws made k 0 (omega arith) ∙ get_or_past ws k 0 (omega arith) ∙ sym (get_or_past made k 0 (omega arith)))
+    (cases_lt k 64)
+
+-- 64 words that were met with 64 others
+pub all_met : (ws other : List ℕ) → length ws ≡ 64 → length other ≡ 64
+    → (k : ℕ) → get_or (put_chunk 0 ws (zip2 bit_and (take 64 ws) (take 64 other))) k 0 ≡ bit_and (get_or ws k 0) (get_or other k 0)
+all_met ws other long beside k =
+    let front : length (take 64 ws) ≡ 64 = length-take-le 64 ws (omega arith) in
+    let others : length (take 64 other) ≡ 64 = length-take-le 64 other (omega arith) in
+    let made : length (zip2 bit_and (take 64 ws) (take 64 other)) ≡ 64 = length-zip2 bit_and (take 64 ws) (take 64 other) (omega arith) ∙ front in
+    all_put ws (zip2 bit_and (take 64 ws) (take 64 other)) long made k
+    ∙ words_met (take 64 ws) (take 64 other) (omega arith) k
+    ∙ ap₂ bit_and (all_taken ws long k) (all_taken other beside k)
+
+-- what is in 64 words and not in 64 others
+all_without : (ws other : List ℕ) → length ws ≡ 64 → length other ≡ 64
+    → (k : ℕ) → get_or (zip2 bit_and (take 64 ws) (map (bit_not w64) (take 64 other))) k 0 ≡ without (get_or ws k 0) (get_or other k 0)
+all_without ws other long beside k =
+    let front : length (take 64 ws) ≡ 64 = length-take-le 64 ws (omega arith) in
+    let others : length (take 64 other) ≡ 64 = length-take-le 64 other (omega arith) in
+    words_without (take 64 ws) (take 64 other) (omega arith) k ∙ ap₂ without (all_taken ws long k) (all_taken other beside k)
+
+-- 64 words that 64 others were taken out of
+pub all_removed : (ws other : List ℕ) → length ws ≡ 64 → length other ≡ 64
+    → (k : ℕ) → get_or (put_chunk 0 ws (zip2 bit_and (take 64 ws) (map (bit_not w64) (take 64 other)))) k 0 ≡ without (get_or ws k 0) (get_or other k 0)
+all_removed ws other long beside k =
+    let front : length (take 64 ws) ≡ 64 = length-take-le 64 ws (omega arith) in
+    let others : length (take 64 other) ≡ 64 = length-take-le 64 other (omega arith) in
+    let turned : length (map (bit_not w64) (take 64 other)) ≡ 64 = length-map (take 64 other) (bit_not w64) ∙ others in
+    let made : length (zip2 bit_and (take 64 ws) (map (bit_not w64) (take 64 other))) ≡ 64 = length-zip2 bit_and (take 64 ws) (map (bit_not w64) (take 64 other)) (omega arith) ∙ front in
+    all_put ws (zip2 bit_and (take 64 ws) (map (bit_not w64) (take 64 other))) long made k
+    ∙ all_without ws other long beside k
+
+-- the test of 64 words and 64 others
+pub all_within : (ws other : List ℕ) → length ws ≡ 64 → length other ≡ 64
+    → (eqb (fold_l bit_or 0 (zip2 bit_and (take 64 ws) (map (bit_not w64) (take 64 other)))) 0 ≡ true) ↔ ((k : ℕ) → without (get_or ws k 0) (get_or other k 0) ≡ 0)
+all_within ws other long beside = (
+  λ test k. sym (all_without ws other long beside k) ∙ (none_from_or 0 (zip2 bit_and (take 64 ws) (map (bit_not w64) (take 64 other))) (eqb-true _ 0 test)).1 k,
+  λ all. eq-eqb _ 0 (or_from_none 0 (zip2 bit_and (take 64 ws) (map (bit_not w64) (take 64 other))) refl (λ k lt. all_without ws other long beside k ∙ all k)),
+)
+
 -- ---- bits
 -- the test of the code
 pub has_bit-tested : (words : List ℕ) (n : ℕ) → eqb (bit_and (get_or words (n / 64) 0 / 2 ^ (n % 64)) 1) 1 ≡ has_bit n words

@@ -228,3 +228,30 @@ fn is_rest_within(words: &[u64], from: usize, other: &[u64]) -> bool
     }
     true
 }
+
+/// Unsets each bit that is not set in `other`. Both have 64 words, which are met at once.
+pub fn meet_sets(words: &mut [u64], other: &[u64])
+    requires { (length words.old ≡ 64) × (length other.now ≡ 64) }
+    ensures { (k : ℕ) → has_bit k words.new ≡ (has_bit k other.now && has_bit k words.old) }
+{
+    let met = u64x64::from_slice(words) & u64x64::from_slice(other);
+    met.copy_to_slice(words);
+}
+
+/// Unsets each bit that is set in `other`. Both have 64 words.
+pub fn remove_sets(words: &mut [u64], other: &[u64])
+    requires { (length words.old ≡ 64) × (length other.now ≡ 64) }
+    ensures { (k : ℕ) → has_bit k words.new ≡ (not (has_bit k other.now) && has_bit k words.old) }
+{
+    let left = u64x64::from_slice(words) & !u64x64::from_slice(other);
+    left.copy_to_slice(words);
+}
+
+/// Whether each set bit is set in `other`. Both have 64 words.
+pub fn is_set_within(words: &[u64], other: &[u64]) -> bool
+    requires { (length words.now ≡ 64) × (length other.now ≡ 64) }
+    ensures { IsTrue result ↔ ((k : ℕ) → has_bit k words.now ≡ true → has_bit k other.now ≡ true) }
+{
+    let past = u64x64::from_slice(words) & !u64x64::from_slice(other);
+    past.reduce_or() == 0
+}

@@ -7,6 +7,9 @@ mod names;
 mod row;
 
 pub use bits::BitRow;
-pub use kernels::{is_set, join_words, meet_words, remove_words, set, unset, within_words};
+pub use kernels::{
+    is_set, is_set_within, join_words, meet_sets, meet_words, remove_sets, remove_words, set,
+    unset, within_words,
+};
 pub use names::NameRow;
 pub use row::Row;

@@ -5,9 +5,10 @@ ghost use Rattle.sh_domain.specs.Sheets.{Sheet};
 ghost use Rattle.sh_rules.specs.Steps.{met_in};
 ghost use Rattle.sh_rules.specs.Visits.{command_by};
 ghost use Rattle.sh_rules.specs.Walks as walks;
+ghost use Rattle.sh_rules.specs.Walks.{setting};
 ghost use Rattle.sh_domain.specs.Admitted.{IsAdmitted};
 ghost use Rattle.sh_sweeps.specs.Sides.{AreNumbersBeside, IsQuietBeside, StandsBeside, sided_of};
-ghost use Rattle.sh_sweeps.specs.Asked.{asking_by};
+ghost use Rattle.sh_sweeps.specs.Asked.{asking_by, unstated};
 ghost use Rattle.sh_sweeps.specs.Sweeps.{IsCommand, setting_by};
 ghost use Rattle.sh_drafts.specs.Ready.{IsReady, IsSwept, Keeps};
 ghost use Rattle.sh_drafts.specs.Turns.{AreNumbers, IsQuiet, Stands};
@@ -22,34 +23,48 @@ use crate::turn::lower_gathered;
 use sh_domain::{Certificate, Facts, FlowRule, Knowledge, is_loop};
 use sh_drafts::kept::{drops_of, facts_at};
 use sh_drafts::{Draft, Part, Place, Subject, Target, lower_at, note_lowered};
-use sh_rules::{Around, Asked, tell_command};
+use sh_rules::{Around, Asked, Claims, tell_command};
 use sh_tree::Command;
 use std::alloc::AllocError;
 
+// What the flow rules ask at a command, except of what is stated, is done with this.
+#[inline(never)]
+fn tell_unstated<A: Asked + Copy>(
+    claims: &Claims<'_>,
+    by: FlowRule,
+    around: &Around<'_>,
+    known: &Knowledge,
+    command: &Command,
+    asked: &mut A,
+)
+    ensures { A.kept asked.new ≡ command_by (unstated A.asked) (setting claims.now) (A.kept asked.old) (met_in (setting claims.now) by around.now known.now command.now) }
+{
+    let mut unstated = Unstated { asked: *asked };
+    tell_command(claims, by, around, known, command, &mut unstated);
+    let Unstated { asked: told } = unstated;
+    *asked = told;
+}
+
 // What the flow rules ask at a command is done with this.
-fn tell<A: Asked>(
+fn tell<A: Asked + Copy>(
     subject: &Subject<'_>,
     certificate: &Certificate,
     by: FlowRule,
     around: &Around<'_>,
     known: &Knowledge,
     command: &Command,
-    asked: A,
-) -> A
+    asked: &mut A,
+)
     requires sized { certificate.now.rows.count ≡ length subject.now.names.now }
     requires admitted { IsAdmitted subject.now.script.now subject.now.policy.now subject.now.tree.now subject.now.names.now }
-    ensures { A.kept result ≡ command_by (asking_by subject.now.stated A.asked) (setting_by subject.now certificate.now) (A.kept asked) (met_in (setting_by subject.now certificate.now) by around.now known.now command.now) }
+    ensures { A.kept asked.new ≡ command_by (asking_by subject.now.stated A.asked) (setting_by subject.now certificate.now) (A.kept asked.old) (met_in (setting_by subject.now certificate.now) by around.now known.now command.now) }
 {
     let claims = claims_of(subject, certificate);
     if subject.stated {
-        let mut unstated = Unstated { asked };
-        tell_command(&claims, by, around, known, command, &mut unstated);
-        let Unstated { asked } = unstated;
-        return asked;
+        tell_unstated(&claims, by, around, known, command, asked);
+    } else {
+        tell_command(&claims, by, around, known, command, asked);
     }
-    let mut asked = asked;
-    tell_command(&claims, by, around, known, command, &mut asked);
-    asked
 }
 
 // What the flow rules ask at a command, gathered for a place and a function.
@@ -68,8 +83,9 @@ fn asked_of(
     ensures quiet { subject.now.stated ≡ true → IsQuiet (gathered_of result) }
     ensures stands { (other : Sheet) → Keeps subject.now other → Stands subject.now.names.now other (gathered_of result) }
 {
-    let gather = Gather::new(target);
-    tell(subject, certificate, by, around, known, command, gather)
+    let mut gather = Gather::new(target);
+    tell(subject, certificate, by, around, known, command, &mut gather);
+    gather
 }
 
 // The index of a command, or the first if a script may not have its number: a hint.
@@ -202,12 +218,13 @@ fn asked_behind(
     let part = Part::Nonzero;
     let place = Place { part, index };
     let gather = Gather::new(target);
-    let sides = Sides {
+    let mut sides = Sides {
         gather,
         place,
         known: None,
     };
-    tell(subject, certificate, by, around, known, command, sides)
+    tell(subject, certificate, by, around, known, command, &mut sides);
+    sides
 }
 
 // Lowers what is claimed at the first of two places, and what a function may drop, by what was

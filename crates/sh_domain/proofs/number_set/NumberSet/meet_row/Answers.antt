@@ -1,10 +1,7 @@
-use Rattle.std.proofs.Common.{◌∙◌}
+use Rattle.std.proofs.Common.{arith, ◌∙◌}
 use Rattle.sh_domain.specs.NumberSets.{numbers_of}
-use Rattle.sh_domain.proofs.NumberSetLemmas.{met_row, none_met}
+use Rattle.sh_domain.proofs.NumberSetLemmas.{row_met}
 use Rattle.sh_domain.proofs.number_set.NumberSet.meet_row.Goals as goal
 
-pub returns-in-Some : goal.returns-in-Some
-returns-in-Some c = met_row c.args.rows.now.rows c.args.id.index c.in-Some.row.now c.in-Some.ensures.row (numbers_of c.args.self.now) c.meet_words.new.words _ c.words.ensures c.meet_words.ensures.bits
-
-pub returns-in-None : goal.returns-in-None
-returns-in-None c = λ k. c.new.ensures.numbers k ∙ none_met c.args.rows.now.rows c.args.id.index c.in-None.ensures.row _ k
+pub returns : goal.returns
+returns c k = c.meet.ensures k ∙ row_met c.args.rows.now.rows c.args.id.index (numbers_of c.of_row-beside.result) c.args.self.now.words (omega arith) c.of_row-beside.ensures k
