@@ -75,8 +75,8 @@ pub fn lower(
     if !writable.has(&left.vars, &left.functions) {
         return Ok(false);
     }
-    let near = near(certificate, place);
-    let kept = keep(&mut certificate.rows, probe, facts, near, &left)?;
+    let near = facts_near(certificate, place);
+    let kept = keep(&mut certificate.rows, probe, &left, facts, near)?;
     put(certificate, place, kept)?;
     Ok(true)
 }
