@@ -78,16 +78,16 @@ IsMixed-put f ws made beside at room long each = record {
   above = λ k le. get_or-put_chunk_above at ws made k 0 (omega arith);
 }
 
--- four lanes that were met with a block
-pub met_lanes : (ws block : List ℕ) (at : ℕ) → at + 4 ≤ length ws → length block ≡ 4
-    → IsMixed bit_and ws (put_chunk at ws (zip2 bit_and (take 4 (drop at ws)) block)) (λ k. get_or block (k - at) 0) at (at + 4)
-met_lanes ws block at room wide =
+-- four lanes that were mixed with a block
+pub mixed_lanes : (f : ℕ → ℕ → ℕ) (ws block : List ℕ) (at : ℕ) → at + 4 ≤ length ws → length block ≡ 4
+    → IsMixed f ws (put_chunk at ws (zip2 f (take 4 (drop at ws)) block)) (λ k. get_or block (k - at) 0) at (at + 4)
+mixed_lanes f ws block at room wide =
     let loaded : length (take 4 (drop at ws)) ≡ 4 = length-chunk at 4 ws room in
-    IsMixed-put bit_and ws _ (λ k. get_or block (k - at) 0) at room
-    (length-zip2 bit_and (take 4 (drop at ws)) block (omega arith) ∙ loaded)
+    IsMixed-put f ws _ (λ k. get_or block (k - at) 0) at room
+    (length-zip2 f (take 4 (drop at ws)) block (omega arith) ∙ loaded)
     (λ k lt.
-    get_or-zip2 bit_and (take 4 (drop at ws)) block k 0 0 0 (omega arith) (omega arith)
-    ∙ ap₂ bit_and (get_or-chunk at 4 ws k 0 lt) (ap (λ m. get_or block m 0) (omega arith)))
+    get_or-zip2 f (take 4 (drop at ws)) block k 0 0 0 (omega arith) (omega arith)
+    ∙ ap₂ f (get_or-chunk at 4 ws k 0 lt) (ap (λ m. get_or block m 0) (omega arith)))
 
 -- what a lane has and that of a block has not
 lane_without : (ws block : List ℕ) (at k : ℕ) → at + 4 ≤ length ws → length block ≡ 4 → k < 4

@@ -160,7 +160,41 @@ fn join_front(words: &mut [u64], other: &[u64])
     requires { length other.now ≤ length words.old }
     ensures { IsMixed bit_or words.old words.new (λ k. slice_index other.now k) 0 (length other.now) }
 {
-    for at in 0..other.len() {
+    let at = join_blocks(words, other);
+    join_rest(words, at, other);
+}
+
+// The words that have whole blocks of the others beside them, and how many.
+fn join_blocks(words: &mut [u64], other: &[u64]) -> usize
+    requires { length other.now ≤ length words.old }
+    ensures count { result ≤ length other.now }
+    ensures words { IsMixed bit_or words.old words.new (λ k. slice_index other.now k) 0 result }
+{
+    let (blocks, _) = other.as_chunks::<4>();
+    let mut at: usize = 0;
+    for block in blocks {
+        join_block(words, at, block);
+        at += 4;
+    }
+    at
+}
+
+// Four words from `at` on.
+fn join_block(words: &mut [u64], at: usize, block: &[u64; 4])
+    requires { at + 4 ≤ length words.old }
+    ensures { IsMixed bit_or words.old words.new (λ k. slice_index block.now (k - at)) at (at + 4) }
+{
+    let a = u64x4::from_slice(&words[at..]);
+    let b = u64x4::from_array(*block);
+    (a | b).copy_to_slice(&mut words[at..]);
+}
+
+// The words from `from` on that have one beside them.
+fn join_rest(words: &mut [u64], from: usize, other: &[u64])
+    requires { (from ≤ length other.now) × (length other.now ≤ length words.old) }
+    ensures { IsMixed bit_or words.old words.new (λ k. slice_index other.now k) from (length other.now) }
+{
+    for at in from..other.len() {
         words[at] |= other[at];
     }
 }

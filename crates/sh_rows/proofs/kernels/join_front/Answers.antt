@@ -1,18 +1,11 @@
-use Rattle.std.proofs.Common.{◌+◌, get_or, arith, refl, ℕ, length, set, bit_or}
-use Rattle.sh_rows.proofs.WordLemmas.{IsMixed-none, IsMixed-more, IsMixed-one, IsMixed-end}
+use Rattle.std.proofs.Common.{◌≤◌, ℕ, arith, bit_or, get_or, length, refl}
+use Rattle.sh_rows.proofs.WordLemmas.{IsMixed-more}
 use Rattle.sh_rows.proofs.kernels.join_front.Goals as goal
 
-pub loop-at-init : goal.loop-at-init
-loop-at-init c = IsMixed-none bit_or c.args.words.now _ 0
-
-pub loop-at-preserved : goal.loop-at-preserved
-loop-at-preserved c =
-    let beside = λ (k : ℕ). get_or c.args.other.now k 0 in
-    let words = c.loop-at.words in
-    let at = c.loop-at.at in
-    let made = bit_or (get_or words at 0) (get_or c.args.other.now at 0) in
-    IsMixed-more bit_or c.args.words.now words (set words at made) beside beside 0 at (at + 1) (omega arith) (omega arith)
-    c.loop-at.invariant (IsMixed-one bit_or words beside at made (omega arith) refl) (λ k le lt. refl)
-
 pub returns : goal.returns
-returns c = IsMixed-end bit_or c.args.words.now c.loop-at.words _ 0 c.loop-at.at (length c.args.other.now) c.loop-at.invariant (omega arith)
+returns c =
+    let beside = λ (k : ℕ). get_or c.args.other.now k 0 in
+    let at = c.join_blocks-at.result in
+    let within : at ≤ length c.args.other.now = c.join_blocks-at.ensures.count in
+    IsMixed-more bit_or c.args.words.now c.join_blocks-at.new.words c.join_rest.new.words beside beside 0 at (length c.args.other.now) (omega arith) within
+    c.join_blocks-at.ensures.words c.join_rest.ensures (λ k le lt. refl)
