@@ -10,7 +10,7 @@ use Rattle.sh_tree.specs.standard.language.Reading.{Reads}
 use Rattle.sh_tree.specs.standard.program.Syntax.{Text}
 use Rattle.sh_tree.specs.standard.program.Trees.{script_of}
 use Rattle.sh_table.specs.standard.runs.Environment.{Environment, Frame}
-use Rattle.sh_table.specs.Rows.{has_row}
+use Rattle.sh_table.specs.standard.runs.Rows.{has_row}
 use Rattle.sh_table.specs.standard.runs.Worlds.{World, Process, Move, run, has_unset_event, has_split_event, start_world, IsStart}
 use Rattle.sh_domain.specs.Facts.{Declared}
 use Rattle.sh_domain.specs.Sheets.{Sheet}

@@ -1,8 +1,8 @@
 -- The marks in the work that is left say what is round the command at its front.
 use Rattle.std.proofs.Common.{◌≡◌, ℕ, ◌-◌, nat_le, Bool, true, false, if◌then◌else◌, is_some, List, [], ◌∷◌, refl}
 use Rattle.sh_table.specs.Surroundings.{Surroundings, outside, in_loop, in_function}
-use Rattle.sh_table.specs.Rows.{is_marked}
 use Rattle.sh_table.specs.standard.runs.Work.{Work, Return, Test, Again, ForFields, Mark, no_loop, marked, or_nearer, nth_mark, loop_mark, return_mark}
+use Rattle.sh_table.specs.standard.runs.Rows.{is_marked}
 
 -- what is round a command with this work after it: a process is begun outside loops and functions
 unfoldable pub around : List Work → Surroundings

@@ -4,11 +4,12 @@ use Rattle.sh_tree.specs.standard.program.Words.{part_text, word_text, part_has,
 use Rattle.sh_tree.specs.standard.language.Bytes.{is_first, name_length, decimal}
 use Rattle.sh_table.specs.standard.Kinds.{look_up, kind_of}
 use Rattle.sh_table.specs.Surroundings.{in_part, in_item, items_located}
-use Rattle.sh_table.specs.Profile.{is_no_action, traps_nothing, may_run, runs_utility, commands_utility, has_inner_o, sets_known, is_count, is_reserved_elsewhere, unless, or_rule, kind_rule, named_rule, words_rule, told_name, function_rule, command_rule, refused_at, least_refused, first_refused}
+use Rattle.sh_table.specs.Profile.{has_inner_o, sets_known, unless, or_rule, kind_rule, named_rule, words_rule, told_name, function_rule, command_rule, refused_at, least_refused, first_refused}
 use Rattle.sh_table.specs.examples.Runs.{elements_of, list}
 use Rattle.sh_table.specs.examples.Profile.{words_from, word, NamesAsExpected, RulesAsExpected, PlacesAsExpected, ProfileAsExpected}
 use Rattle.sh_table.specs.standard.runs.Numbers.{is_number, number_in}
 use Rattle.sh_table.specs.standard.runs.Operands.{is_dashed, is_set_option, ends_in_o}
+use Rattle.sh_table.specs.standard.runs.Rows.{is_no_action, traps_nothing, may_run, runs_utility, commands_utility, is_count, is_reserved_elsewhere}
 
 -- what the profile of a known program computes
 unfoldable pub computes : Unit {0}

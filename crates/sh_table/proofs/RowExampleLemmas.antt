@@ -2,9 +2,10 @@
 use Rattle.std.proofs.Common.{refl}
 use Rattle.sh_table.specs.Admitted.{items_admitted}
 use Rattle.sh_table.specs.Counts.{gives_field, some_gives_field}
-use Rattle.sh_table.specs.Rows.{is_marked, special_has_row, utility_has_row, manner_has_row, has_row, text_gives_field, kind_gives_fields, command_gives_fields}
+use Rattle.sh_table.specs.Rows.{text_gives_field, kind_gives_fields, command_gives_fields}
 use Rattle.sh_table.specs.examples.Steps.{far, comes_to}
 use Rattle.sh_table.specs.examples.Rows.{lacks_row, RowsAsExpected}
+use Rattle.sh_table.specs.standard.runs.Rows.{is_marked, special_has_row, utility_has_row, manner_has_row, has_row}
 use Rattle.sh_table.proofs.ExampleLemmas as example
 use Rattle.sh_table.proofs.ProfileLemmas as profile
 

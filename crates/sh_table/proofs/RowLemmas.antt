@@ -15,8 +15,8 @@ use Rattle.sh_table.specs.declared.kind.Kind.TheVariants as kind
 use Rattle.sh_table.specs.standard.Kinds.{kind_of, is_declaration}
 use Rattle.sh_table.specs.Counts.{some_gives_field}
 use Rattle.sh_table.specs.Surroundings.{Surroundings, Located, outside, items_located}
-use Rattle.sh_table.specs.Profile.{Static, is_no_action, traps_nothing, may_run, runs_utility, has_command_letters, describes, commands_utility, is_count, is_reserved_elsewhere, unless, or_rule, kind_rule, named_rule, words_rule, command_rule, refused_at}
-use Rattle.sh_table.specs.Rows.{special_has_row, utility_has_row, manner_has_row, has_row, text_gives_field, kind_gives_fields, command_gives_fields, RowsAreThere}
+use Rattle.sh_table.specs.Profile.{Static, unless, or_rule, kind_rule, named_rule, words_rule, command_rule, refused_at}
+use Rattle.sh_table.specs.Rows.{text_gives_field, kind_gives_fields, command_gives_fields, RowsAreThere}
 use Rattle.sh_table.specs.standard.runs.Environment.{Environment, Frame}
 use Rattle.sh_table.specs.standard.runs.Answers.{Answer}
 use Rattle.sh_table.specs.standard.runs.States.{fresh}
@@ -24,6 +24,7 @@ use Rattle.sh_table.specs.standard.runs.Expansion.{Context, in_fields, expand}
 use Rattle.sh_table.specs.standard.runs.Operands.{ends_options, is_dashed, count_operand}
 use Rattle.sh_table.specs.standard.runs.Work.{Simple, Work, Prepare, Utility}
 use Rattle.sh_table.specs.standard.runs.Steps.{Named, named_manner, manner, is_declared, word_context, word_fields}
+use Rattle.sh_table.specs.standard.runs.Rows.{is_no_action, traps_nothing, may_run, runs_utility, has_command_letters, describes, commands_utility, is_count, is_reserved_elsewhere, special_has_row, utility_has_row, manner_has_row, has_row}
 use Rattle.sh_table.proofs.AdmittedLemmas.{is_free, items_listed, mapped}
 use Rattle.sh_table.proofs.ExpansionLemmas.{Each}
 use Rattle.sh_table.proofs.LeftLemmas.{Known, Follows, LeftStands, WorkStands, run_stands}

@@ -1,9 +1,8 @@
 -- Which commands are refused before any analysis, and by which rule.
 -- POSIX.1-2024, XCU 2.9.1 (simple commands), 2.9.5 (function definitions), 2.15 (special built-in
 -- utilities), 3 (command).
-use Rattle.std.specs.Prelude.{ℕ, ◌+◌, ◌==◌, nat_lt, Bool, true, false, not, ◌&&◌, ◌||◌, if◌then◌else◌, List, [], ◌∷◌, length, drop, map, codes, Option, Some, None, is_some, option_map}
-use Rattle.std.specs.List.{list_any, list_all, filter_map}
-use Rattle.std.specs.Str.{bytes_eq}
+use Rattle.std.specs.Prelude.{ℕ, ◌+◌, ◌==◌, nat_lt, Bool, true, false, not, ◌&&◌, ◌||◌, if◌then◌else◌, List, [], ◌∷◌, length, drop, map, Option, Some, None, is_some, option_map}
+use Rattle.std.specs.List.{list_all, filter_map}
 use Rattle.sh_tree.specs.declared.known.Declaration.TheVariants as declaration
 use Rattle.sh_tree.specs.declared.known.KnownName.{KnownName}
 use Rattle.sh_tree.specs.declared.known.KnownName.TheVariants as known
@@ -17,59 +16,14 @@ use Rattle.sh_table.specs.declared.kind.Kind.{Kind}
 use Rattle.sh_table.specs.declared.kind.Kind.TheVariants as kind
 use Rattle.sh_table.specs.standard.Kinds.{kind_of}
 use Rattle.sh_table.specs.Surroundings.{Surroundings, Located, outside, items_located}
-use Rattle.sh_table.specs.standard.runs.Numbers.{number_in}
-use Rattle.sh_table.specs.standard.runs.Operands.{is_dashed, ends_options, is_set_option, ends_in_o}
+use Rattle.sh_table.specs.standard.runs.Operands.{ends_options, is_set_option, ends_in_o}
+use Rattle.sh_table.specs.standard.runs.Rows.{traps_nothing, commands_utility, is_count, is_reserved_elsewhere}
 
 -- the static text of an operand, if it has one
 abbrev pub Static : Type 0
 Static = Option Text
 
 -- Tests of operands
-
-abbrev pub is_minus : Text → Bool
-is_minus t = bytes_eq t (codes "-")
-
--- `trap` without an action: no operand, or the first one, after `--` if that is there, is empty,
--- `-` or a number
-unfoldable pub is_no_action : List Static → Bool
-is_no_action [] = true
-is_no_action (None ∷ xs) = false
-is_no_action (Some t ∷ xs) = length t == 0 || is_minus t || is_some (number_in t)
-
-unfoldable pub traps_nothing : List Static → Bool
-traps_nothing (Some t ∷ xs) = if ends_options t then is_no_action xs else is_no_action (Some t ∷ xs)
-traps_nothing xs = is_no_action xs
-
--- what `command` may run: no special built-in utility, none of `cd`, `read`, `getopts` and
--- `command`, and no name that is refused
-unfoldable pub may_run : Kind → Bool
-may_run kind.True = true
-may_run kind.False = true
-may_run kind.Utility = true
-may_run _ = false
-
-unfoldable pub runs_utility : List Static → Bool
-runs_utility [] = true
-runs_utility (None ∷ xs) = false
-runs_utility (Some t ∷ xs) = may_run (kind_of t)
-
--- the letters of an option of `command`: `-p`, `-v`, `-V`
-abbrev pub is_command_letter : ℕ → Bool
-is_command_letter c = c == 112 || c == 118 || c == 86
-
--- after `-v` and `-V` there may be anything
-abbrev pub describes : Text → Bool
-describes t = list_any (λ c. c == 118 || c == 86) t
-
-abbrev pub has_command_letters : Text → Bool
-has_command_letters t = list_all is_command_letter (drop 1 t)
-
-unfoldable pub commands_utility : List Static → Bool
-commands_utility [] = true
-commands_utility (None ∷ xs) = false
-commands_utility (Some t ∷ xs) =
-    if ends_options t then runs_utility xs
-    else (if is_dashed t then has_command_letters t && (describes t || commands_utility xs) else may_run (kind_of t))
 
 -- an option of `set` with an `o` before its last letter: shells differ in which words such options
 -- take
@@ -96,29 +50,9 @@ sets_known false (Some t ∷ xs) =
     if ends_options t then true
     else (if is_set_option t then not (has_inner_o (drop 1 t)) && sets_known (ends_in_o t) xs else not (is_signed t))
 
--- a static decimal number from 1
-unfoldable pub is_count : Static → Bool
-is_count None = false
-is_count (Some t) = is_positive (number_in t)
-  where
-    is_positive : Option ℕ → Bool
-    is_positive None = false
-    is_positive (Some n) = nat_lt 0 n
-
 -- a name and `+=`, which other shells read as an assignment
 abbrev pub is_append : Text → Bool
 is_append t = not (name_length t == 0) && is_first (λ c. c == 43) (drop (name_length t) t) && is_first (λ c. c == 61) (drop (name_length t + 1) t)
-
--- words that other shells reserve: the reading refuses them as command names, and quoted they are
--- utilities
-unfoldable pub is_reserved_elsewhere : KnownName → Bool
-is_reserved_elsewhere known.LeftBrackets = true
-is_reserved_elsewhere known.RightBrackets = true
-is_reserved_elsewhere known.Function = true
-is_reserved_elsewhere known.Select = true
-is_reserved_elsewhere known.Time = true
-is_reserved_elsewhere known.Namespace = true
-is_reserved_elsewhere _ = false
 
 -- Rules
 

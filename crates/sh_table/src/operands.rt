@@ -6,6 +6,7 @@ ghost use Rattle.sh_table.specs.Profile as profile;
 ghost use Rattle.sh_table.specs.WordTexts.{text_in};
 ghost use Rattle.sh_table.specs.standard.runs.Numbers as numbers;
 ghost use Rattle.sh_table.specs.standard.runs.Operands as operands;
+ghost use Rattle.sh_table.specs.standard.runs.Rows as rows;
 
 use crate::kind::{Kind, kind_of};
 use crate::word_text::WordText;
@@ -37,14 +38,14 @@ fn is_not_zero(text: &[u8]) -> bool
 /// Whether the text is a decimal numeral from 1, however long.
 #[tactic(auto, using(crate::proofs::OperandTests::count_text))]
 fn is_count(text: &[u8]) -> bool
-    ensures { result ≡ profile.is_count (Some text.now) }
+    ensures { result ≡ rows.is_count (Some text.now) }
 {
     is_number(text) && is_not_zero(text)
 }
 
-#[tactic(auto, unfolding(crate::specs::Profile::is_count))]
+#[tactic(auto, unfolding(crate::specs::standard::runs::Rows::is_count))]
 fn holds_count(operand: &WordText, script: &[u8]) -> bool
-    ensures { result ≡ profile.is_count (text_in script.now operand.now) }
+    ensures { result ≡ rows.is_count (text_in script.now operand.now) }
 {
     match operand.get(script) {
         Some(text) => is_count(text),
@@ -53,7 +54,7 @@ fn holds_count(operand: &WordText, script: &[u8]) -> bool
 }
 
 fn each_counts(words: &[WordText], script: &[u8]) -> bool
-    ensures { result ≡ list_all (λ w. profile.is_count (text_in script.now w)) words.now }
+    ensures { result ≡ list_all (λ w. rows.is_count (text_in script.now w)) words.now }
 {
     words.iter().all(|word| holds_count(word, script))
 }
@@ -72,7 +73,7 @@ fn each_static(words: &[WordText], script: &[u8]) -> bool
 
 /// Whether each operand is a static number from 1.
 pub fn are_counts(words: &[WordText], script: &[u8]) -> bool
-    ensures { result ≡ list_all profile.is_count (map (text_in script.now) words.now) }
+    ensures { result ≡ list_all rows.is_count (map (text_in script.now) words.now) }
 {
     each_counts(words, script)
 }
@@ -84,9 +85,9 @@ pub fn are_static(words: &[WordText], script: &[u8]) -> bool
     each_static(words, script)
 }
 
-#[tactic(auto, unfolding(crate::specs::Profile::is_no_action, crate::specs::standard::runs::Numbers::number_in))]
+#[tactic(auto, unfolding(crate::specs::standard::runs::Rows::is_no_action, crate::specs::standard::runs::Numbers::number_in))]
 fn is_no_action(words: &[WordText], script: &[u8]) -> bool
-    ensures { result ≡ profile.is_no_action (map (text_in script.now) words.now) }
+    ensures { result ≡ rows.is_no_action (map (text_in script.now) words.now) }
 {
     match words {
         [] => true,
@@ -98,9 +99,9 @@ fn is_no_action(words: &[WordText], script: &[u8]) -> bool
 }
 
 /// Whether `trap` is given no action (XCU 2.15, trap).
-#[tactic(auto, unfolding(crate::specs::Profile::traps_nothing))]
+#[tactic(auto, unfolding(crate::specs::standard::runs::Rows::traps_nothing))]
 pub fn traps_nothing(words: &[WordText], script: &[u8]) -> bool
-    ensures { result ≡ profile.traps_nothing (map (text_in script.now) words.now) }
+    ensures { result ≡ rows.traps_nothing (map (text_in script.now) words.now) }
 {
     match words {
         [] => is_no_action(words, script),
@@ -112,9 +113,9 @@ pub fn traps_nothing(words: &[WordText], script: &[u8]) -> bool
 }
 
 /// Whether `command` may run what has this kind (XCU 3, command).
-#[tactic(auto, unfolding(crate::specs::Profile::may_run))]
+#[tactic(auto, unfolding(crate::specs::standard::runs::Rows::may_run))]
 fn may_run(kind: Kind) -> bool
-    ensures { result ≡ profile.may_run kind }
+    ensures { result ≡ rows.may_run kind }
 {
     match kind {
         Kind::True => true,
@@ -129,9 +130,9 @@ fn may_run(kind: Kind) -> bool
     }
 }
 
-#[tactic(auto, unfolding(crate::specs::Profile::runs_utility))]
+#[tactic(auto, unfolding(crate::specs::standard::runs::Rows::runs_utility))]
 fn runs_utility(words: &[WordText], script: &[u8]) -> bool
-    ensures { result ≡ profile.runs_utility (map (text_in script.now) words.now) }
+    ensures { result ≡ rows.runs_utility (map (text_in script.now) words.now) }
 {
     match words {
         [] => true,
@@ -158,19 +159,19 @@ pub fn is_dashed(text: &[u8]) -> bool
 }
 
 fn is_command_letter(byte: u8) -> bool
-    ensures { result ≡ profile.is_command_letter byte }
+    ensures { result ≡ rows.is_command_letter byte }
 {
     byte == b'p' || byte == b'v' || byte == b'V'
 }
 
 fn are_command_letters(text: &[u8]) -> bool
-    ensures { result ≡ list_all profile.is_command_letter text.now }
+    ensures { result ≡ list_all rows.is_command_letter text.now }
 {
     text.iter().all(|byte| is_command_letter(*byte))
 }
 
 fn has_command_letters(text: &[u8]) -> bool
-    ensures { result ≡ profile.has_command_letters text.now }
+    ensures { result ≡ rows.has_command_letters text.now }
 {
     match text {
         [] => true,
@@ -180,15 +181,15 @@ fn has_command_letters(text: &[u8]) -> bool
 
 /// Whether an option of `command` only describes a name.
 fn describes(text: &[u8]) -> bool
-    ensures { result ≡ profile.describes text.now }
+    ensures { result ≡ rows.describes text.now }
 {
     text.iter().any(|byte| *byte == b'v' || *byte == b'V')
 }
 
 /// Whether `command` runs what the profile admits (XCU 3, command).
-#[tactic(auto, unfolding(crate::specs::Profile::commands_utility))]
+#[tactic(auto, unfolding(crate::specs::standard::runs::Rows::commands_utility))]
 pub fn commands_utility(words: &[WordText], script: &[u8]) -> bool
-    ensures { result ≡ profile.commands_utility (map (text_in script.now) words.now) }
+    ensures { result ≡ rows.commands_utility (map (text_in script.now) words.now) }
 {
     let mut rest = words;
     while let [first, others @ ..] = rest {

@@ -5,6 +5,7 @@ ghost use Rattle.sh_table.specs.standard.Kinds as kinds;
 ghost use Rattle.sh_table.specs.Profile as profile;
 ghost use Rattle.sh_table.specs.Walks as walks;
 ghost use Rattle.sh_table.specs.WordTexts.{text_in};
+ghost use Rattle.sh_table.specs.standard.runs.Rows as rows;
 ghost use Rattle.sh_table.specs.declared.kind.Kind.TheVariants as kind;
 
 use crate::kind::{Kind, kind_of};
@@ -24,9 +25,9 @@ fn unless(holds: bool, rule: Rule) -> Option<Rule>
 }
 
 /// Whether other shells reserve the word, which is a utility if it is quoted.
-#[tactic(auto, unfolding(crate::specs::Profile::is_reserved_elsewhere))]
+#[tactic(auto, unfolding(crate::specs::standard::runs::Rows::is_reserved_elsewhere))]
 fn is_reserved_elsewhere(name: KnownName) -> bool
-    ensures { result ≡ profile.is_reserved_elsewhere name }
+    ensures { result ≡ rows.is_reserved_elsewhere name }
 {
     match name {
         KnownName::LeftBrackets => true,

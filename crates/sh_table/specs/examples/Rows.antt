@@ -7,7 +7,8 @@ use Rattle.sh_tree.specs.declared.tree.LoopKind.TheVariants as loop
 use Rattle.sh_tree.specs.standard.program.Syntax.{Text, Substitution, no_parts, Items, more_items, and_or, no_links, pipeline, Command, no_commands, more_commands, Group, operand, no_elements}
 use Rattle.sh_tree.specs.examples.Program.{only, plain, simple}
 use Rattle.sh_table.specs.Admitted.{is_admitted}
-use Rattle.sh_table.specs.Rows.{has_row, gives_fields}
+use Rattle.sh_table.specs.Rows.{gives_fields}
+use Rattle.sh_table.specs.standard.runs.Rows.{has_row}
 use Rattle.sh_table.specs.standard.runs.Worlds.{World, Move, start_world}
 use Rattle.sh_table.specs.examples.Runs.{utility, says, says_one, compound, list, both, a_and_b, quoted_x, bare_start, start_with, quiet}
 use Rattle.sh_table.specs.examples.Profile.{words}

@@ -24,3 +24,5 @@ pub mod Builtins
 pub mod Steps
 -- 2.9.2 (pipelines), 2.9.3.1 (asynchronous lists), 2.13 (processes and what they share)
 pub mod Worlds
+-- 2.9.1.4, 2.15, 3 (which built-in utilities the steps speak of)
+pub mod Rows
