@@ -1,5 +1,7 @@
 -- The places that are reported of a piece of a command, by the pieces one level below it.
-use Rattle.std.proofs.Common.{◌≡◌, ℕ, Bool, true, false, not, ◌&&◌, if◌then◌else◌, cond, List, [], ◌∷◌, ◌++◌, append-nil, append_assoc, flat_map, filter, is_some, Option, Some, None, refl, sym, ap, ap₂, ◌∙◌, Result, Ok, Err, OnOk}
+use Rattle.std.proofs.Common.{◌≡◌, ◌<◌, ℕ, Bool, true, false, not, ◌&&◌, if◌then◌else◌, cond, List, [], ◌∷◌, ◌++◌, length, get_or, append-nil, append_assoc, flat_map, filter, is_some, Option, Some, None, refl, sym, ap, ap₂, subst, ◌∙◌, Result, Ok, Err, OnOk, OnErr, arith}
+use Rattle.std.proofs.lemmas.List.{length-append}
+use Rattle.std.proofs.lemmas.List.Folds.{length-flat_map-take}
 use Rattle.sh_tree.specs.declared.place.Place.{Place}
 use Rattle.sh_tree.specs.declared.tree.Branch.{Branch}
 use Rattle.sh_tree.specs.declared.tree.Clause.{Clause}
@@ -22,11 +24,11 @@ use Rattle.sh_tree.specs.standard.program.Words.{assignment_in, words_in}
 use Rattle.sh_tree.proofs.ProgramForms.{operands_of_elements}
 use Rattle.sh_tree.proofs.ProgramRules as rules
 use Rattle.sh_table.specs.Profile.{Static}
-use Rattle.sh_quote.specs.Places.{word_places, parts_places}
+use Rattle.sh_quote.specs.Places.{told_at, word_places, parts_places}
 use Rattle.sh_quote.specs.Steady.{for_words}
 use Rattle.sh_quote.specs.Elements.{split}
 use Rattle.sh_quote.specs.Patterns.{parts_begin}
-use Rattle.sh_quote.specs.Quotations.{part_told}
+use Rattle.sh_quote.specs.Quotations.{told, part_told}
 use Rattle.sh_quote.specs.Unquoted.{part_form, begins_form, is_form, word_told, operand_told, declares, words_told, split_by, split_kind, kind_told}
 use Rattle.sh_quote.proofs.OperandLemmas.{split_some, split_none}
 use Rattle.sh_quote.proofs.PatternLemmas as patterns
@@ -161,6 +163,33 @@ kind_told-Define b name steady s c = ap (λ y. flat_map (word_places steady) (sp
 
 pub ruleset kinds = (kind_told-Simple, kind_told-For, kind_told-Group, kind_told-Subshell, kind_told-Cond, kind_told-Loop, kind_told-Branches, kind_told-Define)
 
+-- what is reported at all
+
+pub on_err : {X E P : Type 0} (r : Result X E) → P → OnErr r P
+on_err (Ok x) p = tt
+on_err (Err e) p = p
+
+pub some_place : (o : Option ℕ) (at : ℕ) (ps : List Place) → o ≡ Some at → told o ≡ ps → 0 < length ps
+unfolding told told_at
+some_place o at ps e h = subst (λ qs. 0 < length qs) h (subst (λ x. 0 < length (told x)) (sym e) (omega arith))
+
+pub some_in : {A : Type 0} (f : A → List Place) (xs : List A) (i : ℕ) (x : A) → i < length xs → x ≡ get_or xs i x → 0 < length (f x) → 0 < length (flat_map f xs)
+some_in f xs i x l e h =
+    let there : 0 < length (f (get_or xs i x)) = subst (λ y. 0 < length (f y)) e h in
+    omega (arith, length-flat_map-take f xs i x l, there)
+
+pub some_first : (f : Word → List Place) (ws rest : List Word) (w : Word) → Some (w, rest) ≡ split ws → 0 < length (f w) → 0 < length (flat_map f ws)
+some_first f ws rest w e h = subst (λ vs. 0 < length (flat_map f vs)) (sym (split_some ws w rest e)) (omega (arith, h, length-append (f w) (flat_map f rest)))
+
+pub some_behind : (f : Word → List Place) (ws rest : List Word) (w : Word) → Some (w, rest) ≡ split ws → 0 < length (flat_map f rest) → 0 < length (flat_map f ws)
+some_behind f ws rest w e h = subst (λ vs. 0 < length (flat_map f vs)) (sym (split_some ws w rest e)) (omega (arith, h, length-append (f w) (flat_map f rest)))
+
+-- the places so far and those of the words that are left are all, and there are some if there are
+-- some of the words that are left
+pub record Left (f : Word → List Place) (left ws : List Word) (now old : List Place) : Type 0 where
+  pub all : now ++ flat_map f left ≡ old ++ flat_map f ws
+  pub some : 0 < length (flat_map f left) → 0 < length (flat_map f ws)
+
 -- what is added
 
 pub nothing_told : (old more : List Place) → more ≡ [] → old ≡ old ++ more
@@ -183,3 +212,18 @@ simple_told (Ok x) b name steady d ws rest w old mid new h e m n =
     n ∙ ap₂ (λ l y. l ++ flat_map (operand_told b y steady) rest) m e ∙ append_assoc old (word_told b steady w) (flat_map (operand_told b (declares name) steady) rest)
     ∙ ap (λ l. old ++ l) (sym (first_word b name steady ws rest w (split_some ws w rest h)))
 simple_told (Err x) b name steady d ws rest w old mid new h e m n = tt
+
+-- a simple command of which something is reported
+pub simple_some : (b : List ℕ) (name : Static) (steady : Bool) (ws rest : List Word) (w : Word) → Some (w, rest) ≡ split ws → 0 < length (word_told b steady w)
+    → 0 < length (words_told b name steady ws)
+simple_some b name steady ws rest w h e =
+    subst (λ ps. 0 < length ps) (sym (first_word b name steady ws rest w (split_some ws w rest h)))
+    (omega (arith, e, length-append (word_told b steady w) (flat_map (operand_told b (declares name) steady) rest)))
+
+pub simple_behind : {X E : Type 0} (r : Result X E) (b : List ℕ) (name : Static) (steady d : Bool) (ws rest : List Word) (w : Word) → Some (w, rest) ≡ split ws
+    → d ≡ declares name → OnErr r (0 < length (flat_map (operand_told b d steady) rest)) → OnErr r (0 < length (words_told b name steady ws))
+simple_behind (Ok x) b name steady d ws rest w h e n = tt
+simple_behind (Err x) b name steady d ws rest w h e n =
+    let more : 0 < length (flat_map (operand_told b (declares name) steady) rest) = subst (λ y. 0 < length (flat_map (operand_told b y steady) rest)) e n in
+    subst (λ ps. 0 < length ps) (sym (first_word b name steady ws rest w (split_some ws w rest h)))
+    (omega (arith, more, length-append (word_told b steady w) (flat_map (operand_told b (declares name) steady) rest)))

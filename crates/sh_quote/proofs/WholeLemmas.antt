@@ -1,8 +1,10 @@
 -- What is reported by the texts that a table keeps is what the definitions report.
-use Rattle.std.proofs.Common.{◌≡◌, ℕ, Bool, true, false, not, ◌&&◌, ◌||◌, if◌then◌else◌, cond, List, [], ◌∷◌, ◌++◌, append_assoc, append-nil, map, fold, filter, flat_map, codes, drop, Option, Some, None, is_some, unwrap_or, option_map, refl, sym, ap, ap₂, ◌∙◌, Result, Ok, Err, OnOk}
+use Rattle.std.proofs.Common.{◌≡◌, ◌<◌, ℕ, Bool, true, false, not, ◌&&◌, ◌||◌, if◌then◌else◌, cond, List, [], ◌∷◌, ◌++◌, length, append_assoc, append-nil, map, fold, filter, flat_map, codes, drop, Option, Some, None, is_some, unwrap_or, option_map, refl, sym, ap, ap₂, subst, ◌∙◌, Result, Ok, Err, OnOk, OnErr, arith, true≢false}
 use Rattle.std.specs.List.{list_any, list_all}
 use Rattle.std.specs.Str.{bytes_eq}
+use Rattle.std.specs.Result.{is_err}
 use Rattle.std.proofs.lemmas.Bool.{and_parts}
+use Rattle.std.proofs.lemmas.List.{length-append}
 use Rattle.std.proofs.lemmas.List.Folds.{list_all-map}
 use Rattle.std.proofs.lemmas.Option.{same_Some}
 use Rattle.std.proofs.lemmas.Slice.Eq.{bytes_eq-Decides}
@@ -40,7 +42,7 @@ use Rattle.sh_quote.specs.Operands.{names_other, all_read, names_ifs, reads_ifs,
 use Rattle.sh_quote.specs.Commands as commands
 use Rattle.sh_quote.specs.Commands.{by_form, all_declared_by, is_one_field_by, all_options_by, operands_by, named_by, words_by, kind_by, command_by, command_steady, texts_of, kept_of}
 use Rattle.sh_quote.specs.Unquoted as places
-use Rattle.sh_quote.specs.Unquoted.{declares, split_by, split_kind, kind_told, command_told}
+use Rattle.sh_quote.specs.Unquoted.{declares, split_by, split_kind, kind_told, Keeps, command_told}
 
 with_true : (x : Bool) → (x && true) ≡ x
 with_true true = refl
@@ -253,9 +255,10 @@ unfolding texts_of
 row_out b x c = ap (texts_of x) (rules.command_of-out b c)
 
 pub watched : (b : List ℕ) (x : Table) (ok r : Bool) (c : Command) (s : Around) (texts : List WordText) → map (text_in x.script) texts ≡ texts_with (out-Command c).number x.rows
-    → r ≡ command_steady b c (map (text_in b) texts) → kept_of b x (ok && r) ≡ commands.with_command (kept_of b x ok) (located b s c)
+    → r ≡ command_steady b c (map (text_in b) texts) → (k : Option commands.Kept) → kept_of b x ok ≡ k
+    → kept_of b x (ok && r) ≡ commands.with_command k (located b s c)
 unfolding kept_of command_steady
-watched b x ok r c s texts e h = go (bytes_eq x.script b) refl
+watched b x ok r c s texts e h k same = go (bytes_eq x.script b) refl ∙ ap (λ z. commands.with_command z (located b s c)) same
   where
     told : x.script ≡ b → r ≡ command_by (trees.command_of b c) (texts_of x (trees.command_of b c))
     told same = h ∙ ap (command_by (trees.command_of b c)) (ap (λ d. map (text_in d) texts) (sym same) ∙ e ∙ sym (row_out b x c))
@@ -269,13 +272,41 @@ told_out : (b : List ℕ) (x : Table) (steady : Bool) (c : Command)
 unfolding command_told kind_told
 told_out b x steady c = ap (command_told x steady) (rules.command_of-out b c)
 
+-- what the table says of a command is what is reported of it
+told_by : (b : List ℕ) (x : Table) (steady : Bool) (c : Command) (name : Static) → name ≡ text_at x (out-Command c).number 0
+    → kind_told b name steady (out-Command c).kind ≡ command_told x steady (trees.command_of b c)
+told_by b x steady c name e = ap (λ q. kind_told b q steady (out-Command c).kind) e ∙ sym (told_out b x steady c)
+
+more_there : (xs ys : List Place) → 0 < length ys → 0 < length (xs ++ ys)
+more_there xs ys h = omega (arith, h, length-append xs ys)
+
+-- before the first command
+pub begins : (k : places.Kept) → Keeps false k k
+unfolding Keeps
+begins k = refl
+
+-- a command after memory ran out
+pub still_short : (short : Bool) (there k : places.Kept) (b : List ℕ) (s : Around) (c : Command) → short ≡ true → Keeps short there k
+    → Keeps short there (places.with_command k (located b s c))
+unfolding Keeps
+still_short false there k b s c e h = cc
+still_short true there k b s c e h = omega (arith, h, length-append k.places (command_told k.table k.steady (trees.command_of b c)))
+
+-- a command before that
 pub told_at_visit : {X E : Type 0} (r : Result X E) (b : List ℕ) (x : Table) (steady : Bool) (old new : List Place) (c : Command) (s : Around) (name : Static)
     → name ≡ text_at x (out-Command c).number 0 → OnOk r (new ≡ old ++ kind_told b name steady (out-Command c).kind)
-    → OnOk r (record { table = x; steady = steady; places = new } ≡ places.with_command (record { table = x; steady = steady; places = old }) (located b s c))
-told_at_visit (Ok y) b x steady old new c s name e h =
-    ap (λ q. record { table = x; steady = steady; places = q })
-    (h ∙ ap (λ q. old ++ kind_told b q steady (out-Command c).kind) e ∙ ap (λ q. old ++ q) (sym (told_out b x steady c)))
-told_at_visit (Err y) b x steady old new c s name e h = tt
+    → OnErr r (0 < length (kind_told b name steady (out-Command c).kind)) → (before after : Bool) → before ≡ false → after ≡ is_err r
+    → (k : places.Kept) → Keeps before (record { table = x; steady = steady; places = old }) k
+    → Keeps after (record { table = x; steady = steady; places = new }) (places.with_command k (located b s c))
+unfolding Keeps
+told_at_visit r b x steady old new c s name e h some true after f g k q = absurd (true≢false f)
+told_at_visit (Ok y) b x steady old new c s name e h some false true f g k q = absurd (true≢false g)
+told_at_visit (Ok y) b x steady old new c s name e h some false false f g k q =
+    ap (λ ps. record { table = x; steady = steady; places = ps }) (h ∙ ap (λ ps. old ++ ps) (told_by b x steady c name e)) ∙ ap (λ z. places.with_command z (located b s c)) q
+told_at_visit (Err y) b x steady old new c s name e h some false false f g k q = absurd (true≢false (sym g))
+told_at_visit (Err y) b x steady old new c s name e h some false true f g k q =
+    subst (λ z. 0 < length (places.with_command z (located b s c)).places) q
+    (more_there old (command_told x steady (trees.command_of b c)) (subst (λ ps. 0 < length ps) (told_by b x steady c name e) some))
 
 -- a whole script
 
@@ -300,12 +331,27 @@ steady_whole b t x y ok e n h =
     go true w = ap (λ k. k.steady) (same_Some _ _ w)
     go false w = cc
 
-pub places_whole : (b : List ℕ) (t : Script) (x y : Table) (ok last : Bool) (first ps : List Place) → x ≡ table_of b t → is_numbered (trees.script_of b t) ≡ true
+-- what is kept of a whole script
+kept_whole : (b : List ℕ) (t : Script) (x : Table) (ok : Bool) (first : List Place) → x ≡ table_of b t → is_numbered (trees.script_of b t) ≡ true
     → ok ≡ steady (trees.script_of b t) → first ≡ []
-    → record { table = y; steady = last; places = ps }
-    ≡ fold places.with_command (record { table = x; steady = ok; places = first }) (items_located outside (trees.script_of b t))
-    → ps ≡ unquoted (trees.script_of b t)
+    → (fold places.with_command (record { table = x; steady = ok; places = first }) (items_located outside (trees.script_of b t))).places ≡ unquoted (trees.script_of b t)
 unfolding unquoted
-places_whole b t x y ok last first ps e n s f h =
+kept_whole b t x ok first e n s f =
     let ls = items_located outside (trees.script_of b t) in
-    ap (λ k. k.places) (h ∙ all_told x ok first ls (whole_tells b t x e n)) ∙ ap₂ (λ l z. l ++ places_in z ls) f s
+    ap (λ k. k.places) (all_told x ok first ls (whole_tells b t x e n)) ∙ ap₂ (λ l z. l ++ places_in z ls) f s
+
+abbrev WholeKept : (b : List ℕ) (t : Script) (x y : Table) (ok last short : Bool) (first ps : List Place) → Type 0
+WholeKept b t x y ok last short first ps =
+    Keeps short (record { table = y; steady = last; places = ps }) (fold places.with_command (record { table = x; steady = ok; places = first }) (items_located outside (trees.script_of b t)))
+
+pub places_whole : (b : List ℕ) (t : Script) (x y : Table) (ok last short : Bool) (first ps : List Place) → x ≡ table_of b t → is_numbered (trees.script_of b t) ≡ true
+    → ok ≡ steady (trees.script_of b t) → first ≡ [] → WholeKept b t x y ok last short first ps → short ≡ false → ps ≡ unquoted (trees.script_of b t)
+unfolding Keeps
+places_whole b t x y ok last true first ps e n s f h q = absurd (true≢false q)
+places_whole b t x y ok last false first ps e n s f h q = ap (λ k. k.places) h ∙ kept_whole b t x ok first e n s f
+
+pub some_whole : (b : List ℕ) (t : Script) (x y : Table) (ok last short : Bool) (first ps : List Place) → x ≡ table_of b t → is_numbered (trees.script_of b t) ≡ true
+    → ok ≡ steady (trees.script_of b t) → first ≡ [] → WholeKept b t x y ok last short first ps → short ≡ true → 0 < length (unquoted (trees.script_of b t))
+unfolding Keeps
+some_whole b t x y ok last true first ps e n s f h q = subst (λ l. 0 < length l) (kept_whole b t x ok first e n s f) h
+some_whole b t x y ok last false first ps e n s f h q = absurd (true≢false (sym q))

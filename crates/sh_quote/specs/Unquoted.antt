@@ -1,7 +1,7 @@
 -- Clauses of private functions: the places that are reported of a piece of a command, if the text
 -- of its name is this one.
 -- POSIX.1-2024, XCU 2.6.5 (field splitting), 2.9.1.1 (declaration utilities).
-use Rattle.std.specs.Prelude.{ℕ, Bool, false, not, ◌&&◌, if◌then◌else◌, List, [], ◌∷◌, ◌++◌, flat_map, filter, is_some, Option, Some, None}
+use Rattle.std.specs.Prelude.{ℕ, Bool, true, false, not, ◌&&◌, if◌then◌else◌, List, [], ◌∷◌, ◌++◌, ◌≡◌, ◌<◌, length, flat_map, filter, is_some, Option, Some, None}
 use Rattle.sh_tree.specs.declared.place.Place.{Place}
 use Rattle.sh_tree.specs.declared.tree.Kind.{Kind}
 use Rattle.sh_tree.specs.declared.tree.Part.{Part}
@@ -75,6 +75,11 @@ pub record Kept : Type 0 where
 
 unfoldable pub command_told : Table → Bool → p.Command → List Place
 command_told x steady (p.command n at kind rs) = flat_map (word_places steady) (split_kind (text_at x n 0) kind)
+
+-- all places are there; or memory ran out, and there are some
+unfoldable pub Keeps : (is_short : Bool) → (there all : Kept) → Type 0
+Keeps false there all = there ≡ all
+Keeps true there all = 0 < length all.places
 
 abbrev pub with_command : Kept → Located → Kept
 with_command k l = record { table = k.table; steady = k.steady; places = k.places ++ command_told k.table k.steady l.command }

@@ -1,5 +1,5 @@
 //! The places where the rules of quoting are broken.
-ghost use Rattle.std.specs.Prelude.{◌≡◌, true, IfOk};
+ghost use Rattle.std.specs.Prelude.{◌≡◌, ◌<◌, true, length, IfOk, IfErr};
 ghost use Rattle.sh_tree.specs.standard.program.Trees.{script_of};
 ghost use Rattle.sh_table.specs.Calls as table;
 ghost use Rattle.sh_table.specs.Numbering.{is_numbered};
@@ -12,32 +12,40 @@ use sh_table::walk::{Visitor, walk};
 use sh_table::{Around, CallTable};
 use sh_tree::{Command, Place, Script};
 use std::alloc::{AllocError, Global};
+use std::convert::Infallible;
 
-/// The places in the commands that were visited.
+/// The places in the commands that were visited, until memory runs out; then no more than that
+/// there are some.
 #[derive(Drop)]
 struct Unquoted<'t, 's> {
     calls: &'t CallTable<'s>,
     steady: bool,
     places: Vec<Place>,
+    is_short: bool,
 }
 
 impl<'t, 's> Visitor for Unquoted<'t, 's> {
     ghost Kept = { spec.Kept };
 
-    ghost kept = { λ b s. record { table = s.calls.now; steady = s.steady; places = s.places.items } };
+    ghost keeps = { λ b s k. spec.Keeps s.is_short (record { table = s.calls.now; steady = s.steady; places = s.places.items }) k };
 
     ghost with_command = { spec.with_command };
 
-    type Error = AllocError;
+    type Error = Infallible;
 
     fn visit(
         &mut self,
         _around: Around,
         command: &Command,
         script: &[u8],
-    ) -> Result<(), AllocError> {
+    ) -> Result<(), Infallible> {
+        if self.is_short {
+            return Ok(());
+        }
         let name = self.calls.text(command.number, 0);
-        add_command(command, name, self.steady, script, &mut self.places)
+        let added = add_command(command, name, self.steady, script, &mut self.places);
+        self.is_short = added.is_err();
+        Ok(())
     }
 }
 
@@ -48,7 +56,7 @@ impl<'t, 's> Visitor for Unquoted<'t, 's> {
 ///
 /// # Errors
 ///
-/// `AllocError` if a growth was refused; nothing but the places grows.
+/// If memory runs out. That requires a place.
 pub fn check_quotes(
     alloc: Global,
     tree: &Script,
@@ -57,13 +65,23 @@ pub fn check_quotes(
 ) -> Result<Vec<Place>, AllocError>
     requires table { calls.now ≡ table.table_of script.now tree.now }
     requires numbered { is_numbered (script_of script.now tree.now) ≡ true }
-    ensures { IfOk result (λ places. places.items ≡ definition.unquoted (script_of script.now tree.now)) }
+    ensures places { IfOk result (λ places. places.items ≡ definition.unquoted (script_of script.now tree.now)) }
+    ensures memory { IfErr result (λ _. 0 < length (definition.unquoted (script_of script.now tree.now))) }
 {
     let mut unquoted = Unquoted {
         calls,
         steady: steady_ifs(tree, calls, script),
         places: Vec::new(alloc),
+        is_short: false,
     };
-    walk(tree, script, &mut unquoted)?;
-    Ok(unquoted.places)
+    match walk(tree, script, &mut unquoted) {
+        Ok(()) => {
+            if unquoted.is_short {
+                Err(AllocError)
+            } else {
+                Ok(unquoted.places)
+            }
+        }
+        Err(never) => match never {},
+    }
 }

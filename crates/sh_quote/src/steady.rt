@@ -28,7 +28,7 @@ fn both(steady: bool, leaves: bool) -> bool
 impl<'t, 's> Visitor for Watch<'t, 's> {
     ghost Kept = { Option spec.Kept };
 
-    ghost kept = { λ b s. spec.kept_of b s.calls.now s.steady };
+    ghost keeps = { λ b s k. spec.kept_of b s.calls.now s.steady ≡ k };
 
     ghost with_command = { spec.with_command };
 

@@ -1,5 +1,5 @@
 //! The places of expansions outside quotes, word by word (XCU 2.6.5, 2.6.6, 2.9.1.1).
-ghost use Rattle.std.specs.Prelude.{◌≡◌, ◌++◌, ℕ, List, flat_map, option_map, Some, OnOk};
+ghost use Rattle.std.specs.Prelude.{◌≡◌, ◌++◌, ◌<◌, ℕ, List, length, flat_map, option_map, Some, OnOk, OnErr};
 ghost use Rattle.sh_tree.specs.standard.Words.{words_of};
 ghost use Rattle.sh_tree.specs.declared.tree.Command.{out-Command};
 ghost use Rattle.sh_table.specs.standard.Kinds as kinds;
@@ -14,7 +14,8 @@ use std::alloc::AllocError;
 
 #[tactic(auto, unfolding(crate::specs::Quotations::told))]
 fn add_part(part: &Part, numbers: bool, places: &mut Vec<Place>) -> Result<(), AllocError>
-    ensures { (b : List ℕ) → OnOk result (places.new.items ≡ places.old.items ++ spec.part_told b numbers part.now) }
+    ensures kept { (b : List ℕ) → OnOk result (places.new.items ≡ places.old.items ++ spec.part_told b numbers part.now) }
+    ensures some { (b : List ℕ) → OnErr result (0 < length (spec.part_told b numbers part.now)) }
 {
     match told(part, numbers) {
         None => Ok(()),
@@ -24,7 +25,8 @@ fn add_part(part: &Part, numbers: bool, places: &mut Vec<Place>) -> Result<(), A
 
 #[tactic(auto, unfolding(crate::specs::Quotations::told, crate::specs::Places::told_at))]
 fn add_place(at: u32, places: &mut Vec<Place>) -> Result<(), AllocError>
-    ensures { OnOk result (places.new.items ≡ places.old.items ++ spec.told (Some at)) }
+    ensures kept { OnOk result (places.new.items ≡ places.old.items ++ spec.told (Some at)) }
+    ensures some { OnErr result (0 < length (spec.told (Some at))) }
 {
     let subject = Items::new(*places.allocator());
     places.push(Place {
@@ -41,7 +43,8 @@ fn add_parts(
     script: &[u8],
     places: &mut Vec<Place>,
 ) -> Result<(), AllocError>
-    ensures { OnOk result (places.new.items ≡ places.old.items ++ flat_map (spec.part_told script.now numbers) parts.now) }
+    ensures kept { OnOk result (places.new.items ≡ places.old.items ++ flat_map (spec.part_told script.now numbers) parts.now) }
+    ensures some { OnErr result (0 < length (flat_map (spec.part_told script.now numbers) parts.now)) }
 {
     for part in parts {
         add_part(part, numbers, places)?;
@@ -57,7 +60,8 @@ fn add_word(
     script: &[u8],
     places: &mut Vec<Place>,
 ) -> Result<(), AllocError>
-    ensures { OnOk result (places.new.items ≡ places.old.items ++ spec.word_told script.now steady word.now) }
+    ensures kept { OnOk result (places.new.items ≡ places.old.items ++ spec.word_told script.now steady word.now) }
+    ensures some { OnErr result (0 < length (spec.word_told script.now steady word.now)) }
 {
     let numbers = steady && !is_pattern(word, script);
     add_parts(word.parts.as_slice(), numbers, script, places)
@@ -69,7 +73,8 @@ fn add_words(
     script: &[u8],
     places: &mut Vec<Place>,
 ) -> Result<(), AllocError>
-    ensures { OnOk result (places.new.items ≡ places.old.items ++ flat_map (spec.word_told script.now steady) words.now) }
+    ensures kept { OnOk result (places.new.items ≡ places.old.items ++ flat_map (spec.word_told script.now steady) words.now) }
+    ensures some { OnErr result (0 < length (flat_map (spec.word_told script.now steady) words.now)) }
 {
     for word in words {
         add_word(word, steady, script, places)?;
@@ -86,7 +91,8 @@ fn add_operand(
     script: &[u8],
     places: &mut Vec<Place>,
 ) -> Result<(), AllocError>
-    ensures { OnOk result (places.new.items ≡ places.old.items ++ spec.operand_told script.now declares steady word.now) }
+    ensures kept { OnOk result (places.new.items ≡ places.old.items ++ spec.operand_told script.now declares steady word.now) }
+    ensures some { OnErr result (0 < length (spec.operand_told script.now declares steady word.now)) }
 {
     if declares && begins_assignment(word, script) {
         Ok(())
@@ -103,7 +109,8 @@ fn add_operands(
     script: &[u8],
     places: &mut Vec<Place>,
 ) -> Result<(), AllocError>
-    ensures { OnOk result (places.new.items ≡ places.old.items ++ flat_map (spec.operand_told script.now declares steady) (words_of elements.now)) }
+    ensures kept { OnOk result (places.new.items ≡ places.old.items ++ flat_map (spec.operand_told script.now declares steady) (words_of elements.now)) }
+    ensures some { OnErr result (0 < length (flat_map (spec.operand_told script.now declares steady) (words_of elements.now))) }
 {
     let mut left = elements;
     while let Some((word, rest)) = split_word(left) {
@@ -143,7 +150,8 @@ fn add_simple(
     script: &[u8],
     places: &mut Vec<Place>,
 ) -> Result<(), AllocError>
-    ensures { OnOk result (places.new.items ≡ places.old.items ++ spec.words_told script.now (option_map (λ t. t.now) name.entry) steady (words_of elements.now)) }
+    ensures kept { OnOk result (places.new.items ≡ places.old.items ++ spec.words_told script.now (option_map (λ t. t.now) name.entry) steady (words_of elements.now)) }
+    ensures some { OnErr result (0 < length (spec.words_told script.now (option_map (λ t. t.now) name.entry) steady (words_of elements.now))) }
 {
     match split_word(elements) {
         None => Ok(()),
@@ -162,7 +170,8 @@ fn add_kind(
     script: &[u8],
     places: &mut Vec<Place>,
 ) -> Result<(), AllocError>
-    ensures { OnOk result (places.new.items ≡ places.old.items ++ spec.kind_told script.now (option_map (λ t. t.now) name.entry) steady kind.now) }
+    ensures kept { OnOk result (places.new.items ≡ places.old.items ++ spec.kind_told script.now (option_map (λ t. t.now) name.entry) steady kind.now) }
+    ensures some { OnErr result (0 < length (spec.kind_told script.now (option_map (λ t. t.now) name.entry) steady kind.now)) }
 {
     match kind {
         Kind::Simple(elements) => add_simple(elements.as_slice(), name, steady, script, places),
@@ -192,7 +201,8 @@ pub fn add_command(
     script: &[u8],
     places: &mut Vec<Place>,
 ) -> Result<(), AllocError>
-    ensures { OnOk result (places.new.items ≡ places.old.items ++ spec.kind_told script.now (option_map (λ t. t.now) name.entry) steady (out-Command command.now).kind) }
+    ensures kept { OnOk result (places.new.items ≡ places.old.items ++ spec.kind_told script.now (option_map (λ t. t.now) name.entry) steady (out-Command command.now).kind) }
+    ensures some { OnErr result (0 < length (spec.kind_told script.now (option_map (λ t. t.now) name.entry) steady (out-Command command.now).kind)) }
 {
     add_kind(&command.kind, name, steady, script, places)
 }

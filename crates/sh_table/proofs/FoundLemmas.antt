@@ -62,12 +62,13 @@ none_pushed b old c h =
 
 pub one_found : {E : Type 0} (r : Result (Unit {0}) E) (b : List ℕ) (rs more : List row.Row) (ds others : List declared.Definition) (x : Around) (c : Command)
     → map (row_in b) more ≡ map (row_in b) rs ++ row_at b c ∷ [] → OnOk r (map (definition_in b) others ≡ map (definition_in b) ds ++ filter_map (defined_by b) (c ∷ []))
-    → OnOk r (found_in b more others ≡ with_command (found_in b rs ds) (located b x c))
+    → (k : Found) → found_in b rs ds ≡ k → OnOk r (found_in b more others ≡ with_command k (located b x c))
 unfolding with_command row_of row_at definition_of defined_by site_in
-one_found (Ok u) b rs more ds others x c e h =
+one_found (Ok u) b rs more ds others x c e h k q =
     ap₂ (λ ys zs. record { rows = ys; definitions = zs }) e h
     ∙ ap (λ (s : Site). record { rows = map (row_in b) rs ++ row_of s ∷ []; definitions = map (definition_in b) ds ++ filter_map definition_of (s ∷ []) }) (sym (site_located b x c))
-one_found (Err y) b rs more ds others x c e h = tt
+    ∙ ap (λ z. with_command z (located b x c)) q
+one_found (Err y) b rs more ds others x c e h k q = tt
 
 -- all commands
 

@@ -1,5 +1,5 @@
 -- What is read off one command, and the commands that a walk collects, by their numbers.
-use Rattle.std.proofs.Common.{◌≡◌, ℕ, false, not, List, [], ◌∷◌, ◌++◌, Option, Some, None, slice_get, refl, sym, ap, ◌∙◌, append_assoc, map, fold}
+use Rattle.std.proofs.Common.{◌≡◌, ℕ, false, not, List, [], ◌∷◌, ◌++◌, Option, Some, None, slice_get, refl, sym, ap, ap₂, ◌∙◌, append_assoc, map, fold}
 use Rattle.std.proofs.lemmas.List.{append-nil, map-append}
 use Rattle.std.specs.List.Sorted.{IsNonDecreasingBy, IsStableByKey}
 use Rattle.std.specs.Ordering.{nat_cmp}
@@ -105,9 +105,9 @@ collected found (l ∷ ls) = collected (found ++ outline_of (site_of l) ∷ []) 
 
 -- one command more
 pub one_more : (b : List ℕ) (found more : List site.Site) (s : site.Site) (x : Around) (c : Command) → more ≡ found ++ s ∷ [] → seen b s ≡ outline_of (site_in b x c)
-    → map (seen b) more ≡ with_outline (map (seen b) found) (located b x c)
-one_more b found more s x c e h =
-    ap (map (seen b)) e ∙ map-append (seen b) found (s ∷ []) ∙ ap (λ y. map (seen b) found ++ y ∷ []) (h ∙ ap outline_of (sym (site_located b x c)))
+    → (os : List Outline) → map (seen b) found ≡ os → map (seen b) more ≡ with_outline os (located b x c)
+one_more b found more s x c e h os q =
+    ap (map (seen b)) e ∙ map-append (seen b) found (s ∷ []) ∙ ap₂ (λ ys y. ys ++ y ∷ []) q (h ∙ ap outline_of (sym (site_located b x c)))
 
 -- sorted
 pub sites_in_order : (b : List ℕ) (xs ys : List site.Site) (ss : List Site) → IsNonDecreasingBy (λ (x : site.Site). x.number) ys → IsStableByKey (λ (x : site.Site). x.number) nat_cmp xs ys

@@ -1,6 +1,6 @@
 -- The commands of a piece of a tree, by the pieces one level below it, and what a walk keeps of
 -- them.
-use Rattle.std.proofs.Common.{◌≡◌, ℕ, Bool, true, false, Option, Some, None, List, [], ◌∷◌, ◌++◌, length, refl, sym, ap, ◌∙◌, Result, Ok, Err, OnOk, fold, nat_lt, arith}
+use Rattle.std.proofs.Common.{◌≡◌, ℕ, Bool, true, false, Option, Some, None, List, [], ◌∷◌, ◌++◌, length, refl, sym, ap, ◌∙◌, subst, Result, OnOk, fold, nat_lt, arith}
 use Rattle.std.specs.List.{flat_map}
 use Rattle.std.proofs.lemmas.Bool.Decides.{nat_tests}
 use Rattle.std.proofs.lemmas.List.{append-nil}
@@ -351,22 +351,20 @@ pub ruleset expressions = (of_expression-Expansion, of_expression-Parenthesis, o
 -- what the walk keeps
 
 -- nothing is visited
-pub nothing_visited : {K : Type 0} (f : K → Located → K) (k : K) (more : List Located) → more ≡ [] → k ≡ fold f k more
-nothing_visited f k more e = ap (fold f k) (sym e)
+pub nothing_visited : {K : Type 0} (P : K → Type 0) (f : K → Located → K) (k : K) (more : List Located) → more ≡ [] → P k → P (fold f k more)
+nothing_visited P f k more e h = subst (λ ls. P (fold f k ls)) (sym e) h
 
 -- one piece after another
-pub both : {X E K : Type 0} (r : Result X E) (f : K → Located → K) (old mid new : K) (a b whole : List Located) → mid ≡ fold f old a → whole ≡ a ++ b
-    → OnOk r (new ≡ fold f mid b) → OnOk r (new ≡ fold f old whole)
-both (Ok x) f old mid new a b whole m w n = n ∙ ap (λ k. fold f k b) m ∙ sym (fold-append f old a b) ∙ ap (fold f old) (sym w)
-both (Err e) f old mid new a b whole m w n = tt
+pub both : {X E K : Type 0} (P : K → Type 0) (r : Result X E) (f : K → Located → K) (k : K) (a b whole : List Located) → whole ≡ a ++ b
+    → OnOk r (P (fold f (fold f k a) b)) → OnOk r (P (fold f k whole))
+both P r f k a b whole w h = subst (λ z. OnOk r (P z)) (sym (ap (fold f k) w ∙ fold-append f k a b)) h
 
 -- three pieces
-pub thrice : {X E K : Type 0} (r : Result X E) (f : K → Located → K) (old first mid new : K) (a b d whole : List Located) → first ≡ fold f old a → mid ≡ fold f first b
-    → whole ≡ a ++ b ++ d → OnOk r (new ≡ fold f mid d) → OnOk r (new ≡ fold f old whole)
-thrice r f old first mid new a b d whole e m w n = both r f old mid new (a ++ b) d whole (m ∙ ap (λ k. fold f k b) e ∙ sym (fold-append f old a b)) w n
+pub thrice : {X E K : Type 0} (P : K → Type 0) (r : Result X E) (f : K → Located → K) (k : K) (a b d whole : List Located) → whole ≡ a ++ b ++ d
+    → OnOk r (P (fold f (fold f (fold f k a) b) d)) → OnOk r (P (fold f k whole))
+thrice P r f k a b d whole w h = both P r f k (a ++ b) d whole w (subst (λ z. OnOk r (P (fold f z d))) (sym (fold-append f k a b)) h)
 
 -- a command, what is in it and in its redirections
-pub visited : {X E K : Type 0} (r : Result X E) (f : K → Located → K) (old first mid new : K) (l : Located) (a b whole : List Located) → first ≡ f old l → mid ≡ fold f first a
-    → whole ≡ l ∷ (a ++ b) → OnOk r (new ≡ fold f mid b) → OnOk r (new ≡ fold f old whole)
-visited (Ok x) f old first mid new l a b whole e m w n = n ∙ ap (λ k. fold f k b) (m ∙ ap (λ k. fold f k a) e) ∙ sym (fold-append f (f old l) a b) ∙ ap (fold f old) (sym w)
-visited (Err x) f old first mid new l a b whole e m w n = tt
+pub visited : {X E K : Type 0} (P : K → Type 0) (r : Result X E) (f : K → Located → K) (k : K) (l : Located) (a b whole : List Located) → whole ≡ l ∷ (a ++ b)
+    → OnOk r (P (fold f (fold f (f k l) a) b)) → OnOk r (P (fold f k whole))
+visited P r f k l a b whole w h = subst (λ z. OnOk r (P z)) (sym (ap (fold f k) w ∙ fold-append f (f k l) a b)) h

@@ -76,7 +76,7 @@ fn add_definition(command: &Command, definitions: &mut Vec<Definition>) -> Resul
 impl Visitor for Found {
     ghost Kept = { spec.Found };
 
-    ghost kept = { λ b f. spec.found_in b f.rows.items f.definitions.items };
+    ghost keeps = { λ b f found. spec.found_in b f.rows.items f.definitions.items ≡ found };
 
     ghost with_command = { spec.with_command };
 

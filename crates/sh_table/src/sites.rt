@@ -70,7 +70,7 @@ fn site_of(around: Around, command: &Command) -> Site
 impl Visitor for Met {
     ghost Kept = { List walks.Outline };
 
-    ghost kept = { λ b met. map (walks.seen b) met.found.items };
+    ghost keeps = { λ b met outlines. map (walks.seen b) met.found.items ≡ outlines };
 
     ghost with_command = { walks.with_outline };
 

@@ -15,9 +15,10 @@ pub trait Visitor {
     // What is kept of the commands of a text that were visited.
     ghost Kept: { Type 0 };
 
-    ghost kept: { List ℕ → Self → Kept };
+    // Whether the visitor keeps it.
+    ghost keeps: { List ℕ → Self → Kept → Type 0 };
 
-    // What is kept with one command more.
+    // The same with one command more.
     ghost with_command: { Kept → Located → Kept };
 
     /// Why a walk may end before its last command.
@@ -29,7 +30,7 @@ pub trait Visitor {
     ///
     /// Those of the visitor; the walk ends with them.
     fn visit(&mut self, around: Around, command: &Command, script: &[u8]) -> Result<(), Self::Error>
-        ensures { OnOk result (kept script.now self.new ≡ with_command (kept script.now self.old) (walks.located script.now around command.now)) };
+        ensures { (k : Kept) → keeps script.now self.old k → OnOk result (keeps script.now self.new (with_command k (walks.located script.now around command.now))) };
 }
 
 /// Round the list of a started process, and round the script.
@@ -78,7 +79,7 @@ fn walk_script<V: Visitor>(
     script: &[u8],
     visitor: &mut V,
 ) -> Result<(), V::Error>
-    ensures { OnOk result (V.kept script.now visitor.new ≡ fold V.with_command (V.kept script.now visitor.old) (walks.of_script script.now around list.now)) }
+    ensures { (k : V.Kept) → V.keeps script.now visitor.old k → OnOk result (V.keeps script.now visitor.new (fold V.with_command k (walks.of_script script.now around list.now))) }
 {
     walk_items(around, list.items.as_slice(), script, visitor)
 }
@@ -90,7 +91,7 @@ fn walk_items<V: Visitor>(
     script: &[u8],
     visitor: &mut V,
 ) -> Result<(), V::Error>
-    ensures { OnOk result (V.kept script.now visitor.new ≡ fold V.with_command (V.kept script.now visitor.old) (flat_map (walks.of_item script.now around) items.now)) }
+    ensures { (k : V.Kept) → V.keeps script.now visitor.old k → OnOk result (V.keeps script.now visitor.new (fold V.with_command k (flat_map (walks.of_item script.now around) items.now))) }
 {
     for item in items {
         walk_item(around, item, script, visitor)?;
@@ -106,7 +107,7 @@ fn walk_item<V: Visitor>(
     script: &[u8],
     visitor: &mut V,
 ) -> Result<(), V::Error>
-    ensures { OnOk result (V.kept script.now visitor.new ≡ fold V.with_command (V.kept script.now visitor.old) (walks.of_item script.now around item.now)) }
+    ensures { (k : V.Kept) → V.keeps script.now visitor.old k → OnOk result (V.keeps script.now visitor.new (fold V.with_command k (walks.of_item script.now around item.now))) }
 {
     walk_and_or(
         around.round_item(item.background),
@@ -124,7 +125,7 @@ fn walk_and_or<V: Visitor>(
     script: &[u8],
     visitor: &mut V,
 ) -> Result<(), V::Error>
-    ensures { OnOk result (V.kept script.now visitor.new ≡ fold V.with_command (V.kept script.now visitor.old) (walks.of_and_or script.now around list.now)) }
+    ensures { (k : V.Kept) → V.keeps script.now visitor.old k → OnOk result (V.keeps script.now visitor.new (fold V.with_command k (walks.of_and_or script.now around list.now))) }
 {
     walk_pipe(around, &list.first, script, visitor)?;
     walk_links(around, list.rest.as_slice(), script, visitor)
@@ -137,7 +138,7 @@ fn walk_links<V: Visitor>(
     script: &[u8],
     visitor: &mut V,
 ) -> Result<(), V::Error>
-    ensures { OnOk result (V.kept script.now visitor.new ≡ fold V.with_command (V.kept script.now visitor.old) (flat_map (walks.of_link script.now around) links.now)) }
+    ensures { (k : V.Kept) → V.keeps script.now visitor.old k → OnOk result (V.keeps script.now visitor.new (fold V.with_command k (flat_map (walks.of_link script.now around) links.now))) }
 {
     for link in links {
         walk_pipe(around, &link.1, script, visitor)?;
@@ -153,7 +154,7 @@ fn walk_pipe<V: Visitor>(
     script: &[u8],
     visitor: &mut V,
 ) -> Result<(), V::Error>
-    ensures { OnOk result (V.kept script.now visitor.new ≡ fold V.with_command (V.kept script.now visitor.old) (walks.of_pipe script.now around pipe.now)) }
+    ensures { (k : V.Kept) → V.keeps script.now visitor.old k → OnOk result (V.keeps script.now visitor.new (fold V.with_command k (walks.of_pipe script.now around pipe.now))) }
 {
     let parts = pipe.parts.as_slice();
     walk_commands(around.round_parts(parts.len()), parts, script, visitor)
@@ -166,7 +167,7 @@ fn walk_commands<V: Visitor>(
     script: &[u8],
     visitor: &mut V,
 ) -> Result<(), V::Error>
-    ensures { OnOk result (V.kept script.now visitor.new ≡ fold V.with_command (V.kept script.now visitor.old) (flat_map (walks.of_command script.now around) commands.now)) }
+    ensures { (k : V.Kept) → V.keeps script.now visitor.old k → OnOk result (V.keeps script.now visitor.new (fold V.with_command k (flat_map (walks.of_command script.now around) commands.now))) }
 {
     for command in commands {
         walk_command(around, command, script, visitor)?;
@@ -182,7 +183,7 @@ fn walk_command<V: Visitor>(
     script: &[u8],
     visitor: &mut V,
 ) -> Result<(), V::Error>
-    ensures { OnOk result (V.kept script.now visitor.new ≡ fold V.with_command (V.kept script.now visitor.old) (walks.of_command script.now around command.now)) }
+    ensures { (k : V.Kept) → V.keeps script.now visitor.old k → OnOk result (V.keeps script.now visitor.new (fold V.with_command k (walks.of_command script.now around command.now))) }
 {
     visitor.visit(around, command, script)?;
     walk_kind(around, &command.kind, script, visitor)?;
@@ -195,7 +196,7 @@ fn walk_redirects<V: Visitor>(
     script: &[u8],
     visitor: &mut V,
 ) -> Result<(), V::Error>
-    ensures { OnOk result (V.kept script.now visitor.new ≡ fold V.with_command (V.kept script.now visitor.old) (flat_map (walks.of_redirect script.now) redirects.now)) }
+    ensures { (k : V.Kept) → V.keeps script.now visitor.old k → OnOk result (V.keeps script.now visitor.new (fold V.with_command k (flat_map (walks.of_redirect script.now) redirects.now))) }
 {
     for redirect in redirects {
         walk_target(&redirect.target, script, visitor)?;
@@ -211,7 +212,7 @@ fn walk_kind<V: Visitor>(
     script: &[u8],
     visitor: &mut V,
 ) -> Result<(), V::Error>
-    ensures { OnOk result (V.kept script.now visitor.new ≡ fold V.with_command (V.kept script.now visitor.old) (walks.of_kind script.now around kind.now)) }
+    ensures { (k : V.Kept) → V.keeps script.now visitor.old k → OnOk result (V.keeps script.now visitor.new (fold V.with_command k (walks.of_kind script.now around kind.now))) }
 {
     match kind {
         Kind::Simple(elements) => walk_elements(elements.as_slice(), script, visitor),
@@ -254,7 +255,7 @@ fn walk_otherwise<V: Visitor>(
     script: &[u8],
     visitor: &mut V,
 ) -> Result<(), V::Error>
-    ensures { OnOk result (V.kept script.now visitor.new ≡ fold V.with_command (V.kept script.now visitor.old) (walks.of_option (walks.of_script script.now around) otherwise.now)) }
+    ensures { (k : V.Kept) → V.keeps script.now visitor.old k → OnOk result (V.keeps script.now visitor.new (fold V.with_command k (walks.of_option (walks.of_script script.now around) otherwise.now))) }
 {
     match otherwise {
         Some(list) => walk_script(around, list, script, visitor),
@@ -268,7 +269,7 @@ fn walk_elements<V: Visitor>(
     script: &[u8],
     visitor: &mut V,
 ) -> Result<(), V::Error>
-    ensures { OnOk result (V.kept script.now visitor.new ≡ fold V.with_command (V.kept script.now visitor.old) (flat_map (walks.of_element script.now) elements.now)) }
+    ensures { (k : V.Kept) → V.keeps script.now visitor.old k → OnOk result (V.keeps script.now visitor.new (fold V.with_command k (flat_map (walks.of_element script.now) elements.now))) }
 {
     for element in elements {
         walk_element(element, script, visitor)?;
@@ -283,7 +284,7 @@ fn walk_element<V: Visitor>(
     script: &[u8],
     visitor: &mut V,
 ) -> Result<(), V::Error>
-    ensures { OnOk result (V.kept script.now visitor.new ≡ fold V.with_command (V.kept script.now visitor.old) (walks.of_element script.now element.now)) }
+    ensures { (k : V.Kept) → V.keeps script.now visitor.old k → OnOk result (V.keeps script.now visitor.new (fold V.with_command k (walks.of_element script.now element.now))) }
 {
     match element {
         Element::Assignment { value, .. } => walk_word(value, script, visitor),
@@ -299,7 +300,7 @@ fn walk_branches<V: Visitor>(
     script: &[u8],
     visitor: &mut V,
 ) -> Result<(), V::Error>
-    ensures { OnOk result (V.kept script.now visitor.new ≡ fold V.with_command (V.kept script.now visitor.old) (flat_map (walks.of_branch script.now around) branches.now)) }
+    ensures { (k : V.Kept) → V.keeps script.now visitor.old k → OnOk result (V.keeps script.now visitor.new (fold V.with_command k (flat_map (walks.of_branch script.now around) branches.now))) }
 {
     for branch in branches {
         walk_branch(around, branch, script, visitor)?;
@@ -315,7 +316,7 @@ fn walk_branch<V: Visitor>(
     script: &[u8],
     visitor: &mut V,
 ) -> Result<(), V::Error>
-    ensures { OnOk result (V.kept script.now visitor.new ≡ fold V.with_command (V.kept script.now visitor.old) (walks.of_branch script.now around branch.now)) }
+    ensures { (k : V.Kept) → V.keeps script.now visitor.old k → OnOk result (V.keeps script.now visitor.new (fold V.with_command k (walks.of_branch script.now around branch.now))) }
 {
     walk_script(around, &branch.condition, script, visitor)?;
     walk_script(around, &branch.body, script, visitor)
@@ -323,7 +324,7 @@ fn walk_branch<V: Visitor>(
 
 #[cycle(walk)]
 fn walk_words<V: Visitor>(words: &[Word], script: &[u8], visitor: &mut V) -> Result<(), V::Error>
-    ensures { OnOk result (V.kept script.now visitor.new ≡ fold V.with_command (V.kept script.now visitor.old) (flat_map (walks.of_word script.now) words.now)) }
+    ensures { (k : V.Kept) → V.keeps script.now visitor.old k → OnOk result (V.keeps script.now visitor.new (fold V.with_command k (flat_map (walks.of_word script.now) words.now))) }
 {
     for word in words {
         walk_word(word, script, visitor)?;
@@ -333,7 +334,7 @@ fn walk_words<V: Visitor>(words: &[Word], script: &[u8], visitor: &mut V) -> Res
 
 #[cycle(walk)]
 fn walk_word<V: Visitor>(word: &Word, script: &[u8], visitor: &mut V) -> Result<(), V::Error>
-    ensures { OnOk result (V.kept script.now visitor.new ≡ fold V.with_command (V.kept script.now visitor.old) (walks.of_word script.now word.now)) }
+    ensures { (k : V.Kept) → V.keeps script.now visitor.old k → OnOk result (V.keeps script.now visitor.new (fold V.with_command k (walks.of_word script.now word.now))) }
 {
     walk_parts(word.parts.as_slice(), script, visitor)
 }
@@ -345,7 +346,7 @@ fn walk_clauses<V: Visitor>(
     script: &[u8],
     visitor: &mut V,
 ) -> Result<(), V::Error>
-    ensures { OnOk result (V.kept script.now visitor.new ≡ fold V.with_command (V.kept script.now visitor.old) (flat_map (walks.of_clause script.now around) clauses.now)) }
+    ensures { (k : V.Kept) → V.keeps script.now visitor.old k → OnOk result (V.keeps script.now visitor.new (fold V.with_command k (flat_map (walks.of_clause script.now around) clauses.now))) }
 {
     for clause in clauses {
         walk_clause(around, clause, script, visitor)?;
@@ -361,7 +362,7 @@ fn walk_clause<V: Visitor>(
     script: &[u8],
     visitor: &mut V,
 ) -> Result<(), V::Error>
-    ensures { OnOk result (V.kept script.now visitor.new ≡ fold V.with_command (V.kept script.now visitor.old) (walks.of_clause script.now around clause.now)) }
+    ensures { (k : V.Kept) → V.keeps script.now visitor.old k → OnOk result (V.keeps script.now visitor.new (fold V.with_command k (walks.of_clause script.now around clause.now))) }
 {
     walk_words(clause.patterns.as_slice(), script, visitor)?;
     walk_script(around, &clause.body, script, visitor)
@@ -370,7 +371,7 @@ fn walk_clause<V: Visitor>(
 #[cycle(walk)]
 #[tactic(auto, using(crate::proofs::WalkLemmas::targets))]
 fn walk_target<V: Visitor>(target: &Target, script: &[u8], visitor: &mut V) -> Result<(), V::Error>
-    ensures { OnOk result (V.kept script.now visitor.new ≡ fold V.with_command (V.kept script.now visitor.old) (walks.of_target script.now target.now)) }
+    ensures { (k : V.Kept) → V.keeps script.now visitor.old k → OnOk result (V.keeps script.now visitor.new (fold V.with_command k (walks.of_target script.now target.now))) }
 {
     match target {
         Target::File(_, word) => walk_word(word, script, visitor),
@@ -380,7 +381,7 @@ fn walk_target<V: Visitor>(target: &Target, script: &[u8], visitor: &mut V) -> R
 
 #[cycle(walk)]
 fn walk_parts<V: Visitor>(parts: &[Part], script: &[u8], visitor: &mut V) -> Result<(), V::Error>
-    ensures { OnOk result (V.kept script.now visitor.new ≡ fold V.with_command (V.kept script.now visitor.old) (flat_map (walks.of_part script.now) parts.now)) }
+    ensures { (k : V.Kept) → V.keeps script.now visitor.old k → OnOk result (V.keeps script.now visitor.new (fold V.with_command k (flat_map (walks.of_part script.now) parts.now))) }
 {
     for part in parts {
         walk_part(part, script, visitor)?;
@@ -391,7 +392,7 @@ fn walk_parts<V: Visitor>(parts: &[Part], script: &[u8], visitor: &mut V) -> Res
 #[cycle(walk)]
 #[tactic(auto, using(crate::proofs::WalkLemmas::parts))]
 fn walk_part<V: Visitor>(part: &Part, script: &[u8], visitor: &mut V) -> Result<(), V::Error>
-    ensures { OnOk result (V.kept script.now visitor.new ≡ fold V.with_command (V.kept script.now visitor.old) (walks.of_part script.now part.now)) }
+    ensures { (k : V.Kept) → V.keeps script.now visitor.old k → OnOk result (V.keeps script.now visitor.new (fold V.with_command k (walks.of_part script.now part.now))) }
 {
     match part {
         Part::Double(_, parts) => walk_parts(parts.as_slice(), script, visitor),
@@ -413,7 +414,7 @@ fn walk_operator<V: Visitor>(
     script: &[u8],
     visitor: &mut V,
 ) -> Result<(), V::Error>
-    ensures { OnOk result (V.kept script.now visitor.new ≡ fold V.with_command (V.kept script.now visitor.old) (walks.of_operator script.now operator.now)) }
+    ensures { (k : V.Kept) → V.keeps script.now visitor.old k → OnOk result (V.keeps script.now visitor.new (fold V.with_command k (walks.of_operator script.now operator.now))) }
 {
     match operator {
         ParameterOperator::Value => Ok(()),
@@ -429,7 +430,7 @@ fn walk_chain<V: Visitor>(
     script: &[u8],
     visitor: &mut V,
 ) -> Result<(), V::Error>
-    ensures { OnOk result (V.kept script.now visitor.new ≡ fold V.with_command (V.kept script.now visitor.old) (flat_map (walks.of_step script.now) rest.now)) }
+    ensures { (k : V.Kept) → V.keeps script.now visitor.old k → OnOk result (V.keeps script.now visitor.new (fold V.with_command k (flat_map (walks.of_step script.now) rest.now))) }
 {
     for link in rest {
         walk_expression(&link.1, script, visitor)?;
@@ -444,7 +445,7 @@ fn walk_expression<V: Visitor>(
     script: &[u8],
     visitor: &mut V,
 ) -> Result<(), V::Error>
-    ensures { OnOk result (V.kept script.now visitor.new ≡ fold V.with_command (V.kept script.now visitor.old) (walks.of_expression script.now expression.now)) }
+    ensures { (k : V.Kept) → V.keeps script.now visitor.old k → OnOk result (V.keeps script.now visitor.new (fold V.with_command k (walks.of_expression script.now expression.now))) }
 {
     match expression {
         Expr::Constant(_) => Ok(()),
@@ -474,7 +475,7 @@ fn walk_expression<V: Visitor>(
 /// The first one of the visitor.
 #[tactic(auto, unfolding(crate::specs::Walks::of_script))]
 pub fn walk<V: Visitor>(list: &Script, script: &[u8], visitor: &mut V) -> Result<(), V::Error>
-    ensures { OnOk result (V.kept script.now visitor.new ≡ fold V.with_command (V.kept script.now visitor.old) (items_located outside (script_of script.now list.now))) }
+    ensures { (k : V.Kept) → V.keeps script.now visitor.old k → OnOk result (V.keeps script.now visitor.new (fold V.with_command k (items_located outside (script_of script.now list.now)))) }
 {
     walk_script(OUTSIDE, list, script, visitor)
 }
