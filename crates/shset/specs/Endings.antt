@@ -3,10 +3,13 @@
 -- status above zero reports a fault.
 use Rattle.std.specs.Prelude.{◌≡◌, ◌⊎◌, ℕ, List, [], ◌∷◌, ◌++◌, codes, string_bytes, Option, Some, None, Result, Ok, Err}
 use Rattle.std.specs.Option.{option_map}
+use Rattle.std.specs.Io.KnownBytes.{Appends}
 use Rattle.std.specs.declared.io.ErrorKind.{ErrorKind}
 use Rattle.std.specs.declared.io.ErrorKind.TheVariants.{OutOfMemory}
+use Rattle.sh_answers.specs.declared.ends.Counts.{Counts}
 use Rattle.sh_answers.specs.declared.moves.Fault.{Fault}
 use Rattle.sh_answers.specs.declared.moves.Fault.TheVariants as fault
+use Rattle.sh_answers.specs.Ends.{RefusedBetween}
 use Rattle.sh_line.specs.declared.line.Stop.{Stop}
 use Rattle.sh_line.specs.declared.line.Stop.TheVariants.{Usage, Help, BadName, Memory}
 use Rattle.shset.specs.declared.ending.Stream.{Stream}
@@ -51,13 +54,33 @@ abbrev pub RunsTo : Result ℕ Fault → Ending → Type 0
 RunsTo (Ok status) e = EndsSilently status e
 RunsTo (Err f) e = Fails (fault_line f) e
 
--- if its text was not printed: a standard output that takes none is a fault, and of standard error
--- there is nothing to report
-abbrev pub EndsUnprinted : Option (Stream × List ℕ) → ℕ → Ending → Type 0
-EndsUnprinted None status e = EndsSilently status e
-EndsUnprinted (Some (Output, text)) status e = Fails (fault_line fault.Write) e
-EndsUnprinted (Some (Error, text)) status e = EndsSilently status e
+-- what is known of a stream: the bytes that it holds, if they are known, and what went wrong at it
+pub record Seen : Type 0 where
+  pub held : Option (List ℕ)
+  pub counts : Counts
 
--- the status is that of the ending, or of what follows if its text was not printed
-abbrev pub IsStatusOf : Ending → ℕ → Type 0
-IsStatusOf e status = (status ≡ e.status) ⊎ ((last : Ending) × EndsUnprinted (message_of e) e.status last × (status ≡ last.status))
+abbrev pub seen : Option (List ℕ) → Counts → Seen
+seen held counts = record { held = held; counts = counts }
+
+abbrev pub Takes : List ℕ → Seen → Seen → Type 0
+Takes text old new = Appends old.held new.held text
+
+abbrev pub Refuses : Seen → Seen → Type 0
+Refuses old new = RefusedBetween old.counts new.counts
+
+-- it takes the text or refuses
+abbrev pub Offers : List ℕ → Seen → Seen → Type 0
+Offers text old new = Takes text old new ⊎ Refuses old new
+
+-- The message goes to its stream. If standard output refuses it, that is a fault; if standard error
+-- does, there is nothing to report.
+abbrev pub EndsBy : Option (Stream × List ℕ) → (given : ℕ) → (out out_after error error_after : Seen) → ℕ → Type 0
+EndsBy None given out out_after error error_after status = (status ≡ given) × (out_after ≡ out) × (error_after ≡ error)
+EndsBy (Some (Error, text)) given out out_after error error_after status = (status ≡ given) × (out_after ≡ out) × Offers text error error_after
+EndsBy (Some (Output, text)) given out out_after error error_after status =
+    ((status ≡ given) × Takes text out out_after × (error_after ≡ error))
+    ⊎ ((status ≡ 3) × Refuses out out_after × Offers (fault_line fault.Write ++ 10 ∷ []) error error_after)
+
+-- how the program ends, by what is known of its streams before and after
+abbrev pub Ends : Ending → (out out_after error error_after : Seen) → ℕ → Type 0
+Ends e out out_after error error_after status = EndsBy (message_of e) e.status out out_after error error_after status

@@ -1,14 +1,17 @@
 //! How the program ends: what it prints beside an answer, where, and its status.
 ghost use Rattle.std.specs.Prelude.{◌≡◌, Some};
 ghost use Rattle.shset.specs.declared.ending.Stream.TheVariants.{Error};
-ghost use Rattle.shset.specs.Endings.{EndsUnprinted, Fails, RunsTo, StopsWith, fault_line, message_of, words_line};
+ghost use Rattle.shset.specs.Endings.{Fails, RunsTo, StopsWith, fault_line, message_of, words_line};
 
 use sh_answers::Fault;
 use sh_line::Stop;
 use std::io::ErrorKind;
 
 /// The status of a usage fault, of an end that failed and of memory that ran out.
-const FAILED: u8 = 3;
+pub const FAILED: u8 = 3;
+
+/// What is printed if an answer, or help, is not written.
+pub const UNWRITTEN: &str = "shset: cannot write\n";
 
 /// Where a text is printed.
 #[derive(Clone, Copy, Debug, PartialEq, Eq)]
@@ -57,7 +60,7 @@ pub fn after_fault(fault: Fault) -> Ending<'static>
     match fault {
         Fault::Memory => failing("shset: out of memory\n"),
         Fault::Read => failing("shset: cannot read\n"),
-        Fault::Write => failing("shset: cannot write\n"),
+        Fault::Write => failing(UNWRITTEN),
     }
 }
 
@@ -99,23 +102,5 @@ pub fn after_run(answer: Result<u8, Fault>) -> Ending<'static>
             message: None,
         },
         Err(fault) => after_fault(fault),
-    }
-}
-
-/// The end if the message of an end was not printed.
-pub fn unprinted(ending: Ending<'_>) -> Ending<'static>
-    ensures { EndsUnprinted (message_of ending.entry) ending.entry.status result }
-{
-    match ending.message {
-        Some(
-            Message {
-                stream: Stream::Output,
-                ..
-            },
-        ) => after_fault(Fault::Write),
-        _ => Ending {
-            status: ending.status,
-            message: None,
-        },
     }
 }

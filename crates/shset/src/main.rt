@@ -2,17 +2,18 @@
 //! command line asks for, and ends with its status.
 #![tactic(auto)]
 
-ghost use Rattle.std.specs.Prelude.{ℕ, List, [], IfOk};
+ghost use Rattle.std.specs.Prelude.{◌≡◌, ℕ, List, [], IfOk};
 ghost use Rattle.std.specs.Process.{exit_status};
+ghost use Rattle.sh_answers.specs.Ends.{HasRoom};
 ghost use Rattle.sh_answers.specs.Moves.{Had};
 ghost use Rattle.sh_report.specs.Promises.{EndsSafe};
 ghost use Rattle.sh_report.specs.Runs.{HadText, certificate_read, script_read};
-ghost use Rattle.shset.specs.Endings.{IsStatusOf};
+ghost use Rattle.shset.specs.Endings.{Ends, Offers, seen};
 
 mod ending;
 
-use ending::{Ending, Stream, after_run, unprinted, without_line, without_words};
-use sh_answers::{Counted, Fault};
+use ending::{Ending, FAILED, Stream, UNWRITTEN, after_run, without_line, without_words};
+use sh_answers::{Counted, Fault, Outlet, write_all};
 use sh_line::{Line, Source, command_line};
 use sh_report::run;
 use std::io::{self, Read};
@@ -20,26 +21,41 @@ use std::process::ExitCode;
 use std::rt::{Env, Files};
 use std::{env, fs};
 
-fn print(rt: &(impl Print + Eprint), ending: &Ending<'_>) -> io::Result<()> {
+/// Prints on standard error, of which nothing can be reported if it refuses, and gives the status.
+fn end_with<E: Outlet>(error: &mut E, text: &str, status: u8) -> ExitCode
+    requires { HasRoom (E.tally error.old) }
+    ensures status { exit_status result ≡ status }
+    ensures offered { Offers text.now (seen (E.contents error.old) (E.tally error.old)) (seen (E.contents error.new) (E.tally error.new)) }
+{
+    let _ = write_all(error, text.as_bytes());
+    ExitCode::from(status)
+}
+
+/// Prints what there is to print on its stream, and gives the status. If standard output refuses
+/// help, that is a fault.
+fn end<O: Outlet, E: Outlet>(out: &mut O, error: &mut E, ending: Ending<'_>) -> ExitCode
+    requires out_room { HasRoom (O.tally out.old) }
+    requires error_room { HasRoom (E.tally error.old) }
+    ensures { Ends ending.entry (seen (O.contents out.old) (O.tally out.old)) (seen (O.contents out.new) (O.tally out.new)) (seen (E.contents error.old) (E.tally error.old)) (seen (E.contents error.new) (E.tally error.new)) (exit_status result) }
+{
     let Some(message) = ending.message else {
-        return Ok(());
+        return ExitCode::from(ending.status);
     };
     match message.stream {
-        Stream::Output => rt.print(message.text),
-        Stream::Error => rt.eprint(message.text),
+        Stream::Error => end_with(error, message.text, ending.status),
+        Stream::Output => match write_all(out, message.text.as_bytes()) {
+            Ok(()) => ExitCode::from(ending.status),
+            Err(_) => end_with(error, UNWRITTEN, FAILED),
+        },
     }
 }
 
-/// Prints what there is to print, and gives the status.
-fn end(rt: &(impl Print + Eprint), ending: Ending<'_>) -> ExitCode
-    ensures { IsStatusOf ending.entry (exit_status result) }
-{
-    if print(rt, &ending).is_ok() {
-        return ExitCode::from(ending.status);
-    }
-    let last = unprinted(ending);
-    let _ = print(rt, &last);
-    ExitCode::from(last.status)
+/// Ends on the streams of the runtime.
+fn exit(rt: &HostRuntime, ending: Ending<'_>) -> ExitCode {
+    let stderr = rt.stderr();
+    let mut out = Counted::new(io::writer(rt));
+    let mut error = Counted::new(io::writer(&stderr));
+    end(&mut out, &mut error, ending)
 }
 
 fn run_over<R: Print + AllocGlobal, S: Read + Drop, C: Read + Drop>(
@@ -97,10 +113,10 @@ fn words_of(rt: &(impl Env + AllocGlobal)) -> io::Result<Vec<String>> {
 fn main(rt: HostRuntime) -> ExitCode {
     let words = match words_of(&rt) {
         Ok(words) => words,
-        Err(error) => return end(&rt, without_words(error.kind())),
+        Err(error) => return exit(&rt, without_words(error.kind())),
     };
     match command_line(rt.alloc(), words.as_slice()) {
-        Ok(line) => end(&rt, after_run(run_line(&rt, &line))),
-        Err(stop) => end(&rt, without_line(&stop)),
+        Ok(line) => exit(&rt, after_run(run_line(&rt, &line))),
+        Err(stop) => exit(&rt, without_line(&stop)),
     }
 }
