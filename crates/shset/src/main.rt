@@ -52,8 +52,8 @@ fn end<O: Outlet, E: Outlet>(out: &mut O, error: &mut E, ending: Ending<'_>) -> 
 
 /// Ends on the streams of the runtime.
 fn exit(rt: &HostRuntime, ending: Ending<'_>) -> ExitCode {
-    let stderr = rt.stderr();
-    let mut out = Counted::new(io::writer(rt));
+    let (stdout, stderr) = (rt.stdout(), rt.stderr());
+    let mut out = Counted::new(io::writer(&stdout));
     let mut error = Counted::new(io::writer(&stderr));
     end(&mut out, &mut error, ending)
 }
