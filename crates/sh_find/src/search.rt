@@ -14,11 +14,11 @@ ghost use Rattle.sh_drafts.specs.Turns.{sheet_by};
 ghost use Rattle.sh_drafts.specs.Working.{IsWorking};
 
 use crate::counts::solve_counts;
+use crate::turn::turn;
 use indexmap::IndexMap;
 use sh_domain::{Certificate, Compact, Facts, Names, Policy, Rows};
 use sh_drafts::{Draft, Subject, Target, Writable, rest_after, unreached};
 use sh_rows::{BitRow, Row};
-use sh_sweeps::turn::turn;
 use sh_sweeps::{sweep_by_rounds, sweep_round, sweep_waiting};
 use sh_table::CallTable;
 use sh_tree::{Script, commands};

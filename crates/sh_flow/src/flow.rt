@@ -8,9 +8,10 @@ ghost use Rattle.sh_flow.specs.Flows.{FindsFault, Flows, LeavesUnmet, Tells};
 
 use sh_demands::check_demands;
 use sh_domain::{Certificate, FlowRule, Names, Policy};
-use sh_rules::{Claims, Fault, check_rules};
+use sh_rules::{Claims, Fault};
 use sh_table::CallTable;
 use sh_tree::{Place, Script};
+use sh_walks::check_rules;
 use std::alloc::{AllocError, Global};
 
 /// What a check of a certificate finds.

@@ -10,7 +10,7 @@ ghost use Rattle.sh_report.specs.Prepared.{AnswersText, IsPrepared, IsRead, shee
 
 use sh_domain::{Certificate, Given, Names, Policy};
 use sh_facts::read_any;
-use sh_flow::fill;
+use sh_find::fill;
 use sh_grammar::parse;
 use sh_table::{CallTable, admit};
 use sh_tree::{Refusal, Script};

@@ -33,7 +33,7 @@ use Rattle.sh_domain.specs.Entries as entries
 use Rattle.sh_domain.specs.Gains.{named, words_gains}
 use Rattle.sh_domain.specs.Views.{Before, Entry, Head}
 use Rattle.sh_rules.specs.declared.around.Around.{Around}
-use Rattle.sh_rules.specs.declared.walk.Course as walk
+use Rattle.sh_rules.specs.declared.course.Course as walk
 use Rattle.sh_domain.specs.Facts.{Facts}
 use Rattle.sh_domain.specs.declared.knowledge.Knowledge.{Knowledge}
 use Rattle.sh_rules.specs.Settings.{Setting, known_at, gained, without_job}

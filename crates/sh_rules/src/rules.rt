@@ -1,24 +1,16 @@
-//! The flow rules of a whole script: at each command what they require of it is done (XCU 2.9).
-ghost use Rattle.std.specs.Prelude.{◌≡◌, ◌≤◌, List, Some, ℕ, length, map, option_map, true};
-ghost use Rattle.sh_tree.specs.declared.limits.TheConstants.{MAX_COMMANDS};
+//! What the flow rules require of one command (XCU 2.9).
+ghost use Rattle.std.specs.Prelude.{◌≡◌, List, Some, ℕ, map, option_map};
 ghost use Rattle.sh_tree.specs.standard.Tree.{text_of};
 ghost use Rattle.sh_tree.specs.Lists.{elements_from, redirects_from};
 ghost use Rattle.sh_tree.specs.standard.program.Trees as trees;
-ghost use Rattle.sh_tree.specs.standard.program.Trees.{script_of};
-ghost use Rattle.sh_table.specs.Calls.{table_of, texts_with};
-ghost use Rattle.sh_table.specs.Numbering.{is_numbered};
+ghost use Rattle.sh_table.specs.Calls.{texts_with};
 ghost use Rattle.sh_table.specs.WordTexts.{text_in};
-ghost use Rattle.sh_domain.specs.Facts.{start_facts};
-ghost use Rattle.sh_domain.specs.Faults.{faults, least};
-ghost use Rattle.sh_domain.specs.Names.{IsNumbering};
 ghost use Rattle.sh_domain.specs.Table.{is_redirected};
-ghost use Rattle.sh_gains.specs.Claims.{kept_claims};
 ghost use Rattle.sh_rules.specs.Bounds as bounds;
 ghost use Rattle.sh_rules.specs.CommandBounds as commands;
 ghost use Rattle.sh_rules.specs.Visits as spec;
 ghost use Rattle.sh_rules.specs.Steps as steps;
 ghost use Rattle.sh_rules.specs.Tells as tells;
-ghost use Rattle.sh_rules.specs.Tells.{fault_of};
 ghost use Rattle.sh_rules.specs.Walks as walks;
 ghost use Rattle.sh_rules.specs.Walks.{facts_in, setting};
 
@@ -27,14 +19,13 @@ use crate::asked::Asked;
 use crate::bounds::{tell_compound, tell_redirects};
 use crate::claims::Claims;
 use crate::drops::tell_drops;
-use crate::fault::{Fault, Least};
+use crate::fault::Fault;
 use crate::gains::gain_redirects;
 use crate::place::Place;
 use crate::simple::tell_simple;
-use crate::walk::{Visitor, walk};
-use sh_domain::{FlowRule, Knowledge, Policy};
+use sh_domain::{FlowRule, Knowledge};
 use sh_table::WordText;
-use sh_tree::{Command, Element, Items, Kind, Redirect, Script};
+use sh_tree::{Command, Element, Items, Kind, Redirect};
 
 impl Claims<'_> {
     /// The static texts of the words of a command, the command name's first.
@@ -195,46 +186,4 @@ pub fn tell_command<A: Asked>(
     tell_claims(claims, around, number, redirects, &command.kind, asked);
     tell_redirects(claims, number, is_redirected(redirects), asked);
     tell_counted(claims, around, number, &command.kind, asked);
-}
-
-/// A visitor that does at each command what the rules require of it.
-pub struct Rules<A> {
-    pub asked: A,
-}
-
-impl<A: Asked> Visitor for Rules<A> {
-    ghost Kept = { A.Kept };
-
-    ghost kept = { λ s. A.kept s.asked };
-
-    ghost with_met = { λ x. spec.command_by A.asked x };
-
-    fn visit(
-        &mut self,
-        claims: &Claims<'_>,
-        by: FlowRule,
-        around: &Around<'_>,
-        known: &Knowledge,
-        command: &Command,
-    ) {
-        tell_command(claims, by, around, known, command, &mut self.asked);
-    }
-}
-
-/// The least command that breaks a flow rule, with the least of the rules that it breaks, by what
-/// the certificate claims of the script. None if it breaks none. The check takes no memory.
-pub fn check_rules(claims: &Claims<'_>, policy: &Policy, tree: &Script) -> Option<Fault>
-    requires table { claims.now.calls.now ≡ table_of claims.now.script.now tree.now }
-    requires numbered { is_numbered (script_of claims.now.script.now tree.now) ≡ true }
-    requires few { length (table_of claims.now.script.now tree.now).rows ≤ MAX_COMMANDS }
-    requires names { IsNumbering claims.now.script.now tree.now policy.now claims.now.names.now }
-    ensures { option_map fault_of result ≡ least (faults (start_facts policy.now) (kept_claims claims.now.script.now tree.now claims.now.names.now claims.now.certificate.now) (script_of claims.now.script.now tree.now)) }
-{
-    let start = Knowledge::start(claims.names, policy);
-    let mut rules = Rules {
-        asked: Least { fault: None },
-    };
-    walk(claims, &start, tree, &mut rules);
-    let Rules { asked } = rules;
-    asked.fault
 }

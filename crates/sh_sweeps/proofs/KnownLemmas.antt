@@ -21,7 +21,7 @@ use Rattle.sh_domain.specs.Views.{After, Seen, Slot, at, gaining}
 use Rattle.sh_rules.specs.declared.around.Around.{Around}
 use Rattle.sh_rules.specs.declared.behind.Behind as code
 use Rattle.sh_rules.specs.declared.claims.Claims.{Claims}
-use Rattle.sh_rules.specs.declared.walk.Course.{Course}
+use Rattle.sh_rules.specs.declared.course.Course.{Course}
 use Rattle.sh_rules.specs.Behind.{Behind, started}
 use Rattle.sh_rules.specs.Asking.{Asking}
 use Rattle.sh_rules.specs.Settings.{Setting, gained, known_at}

@@ -30,7 +30,7 @@ use Rattle.sh_domain.specs.Knowledge.{AreNumbered, among, knowledge_facts}
 use Rattle.sh_domain.specs.declared.knowledge.Knowledge.{Knowledge}
 use Rattle.sh_domain.specs.Views as views
 use Rattle.sh_domain.specs.Views.{After, Before, Both, Entry, Head, Seen, at, at_start, gaining, gaining_names, if_nonzero, if_zero}
-use Rattle.sh_rules.specs.declared.walk.Course.{Course}
+use Rattle.sh_rules.specs.declared.course.Course.{Course}
 use Rattle.sh_rules.specs.Behind.{Behind, both, in_any_case}
 use Rattle.sh_rules.specs.Behind as behind
 use Rattle.sh_rules.proofs.AboveLemmas.{stays_above}

@@ -24,7 +24,7 @@ use Rattle.sh_domain.specs.Order.{IsWithin}
 use Rattle.sh_domain.specs.Sheets.{Sheet}
 use Rattle.sh_domain.specs.Views.{After, Before, Both, Seen, at, gaining, in_any_case}
 use Rattle.sh_rules.specs.declared.behind.Behind as code
-use Rattle.sh_rules.specs.declared.walk.Course.{Course}
+use Rattle.sh_rules.specs.declared.course.Course.{Course}
 use Rattle.sh_rules.specs.Above.{SeesWithin}
 use Rattle.sh_rules.specs.Behind.{Behind}
 use Rattle.sh_rules.specs.Meaning.{sees}

@@ -17,8 +17,7 @@ use crate::sweep::{sweep_items, sweep_list};
 use crate::words::{pass_word, sweep_patterns};
 use sh_domain::{FlowRule, Knowledge};
 use sh_drafts::{Draft, Subject};
-use sh_rules::walk::begun;
-use sh_rules::{Around, met};
+use sh_rules::{Around, begun, met};
 use sh_tree::{Branch, Clause, Script, Word};
 use std::alloc::AllocError;
 

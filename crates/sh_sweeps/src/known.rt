@@ -18,10 +18,9 @@ use crate::claims::claims_of;
 use sh_domain::{Certificate, FlowRule, Knowledge};
 use sh_drafts::Subject;
 use sh_gains::{Known, gain_operands};
-use sh_rules::walk::Course;
 use sh_rules::{
-    Behind, enter_operator, gain_action, gain_assigned, gain_redirects, gain_variable, gain_word,
-    pipe_behind, without_job,
+    Behind, Course, enter_operator, gain_action, gain_assigned, gain_redirects, gain_variable,
+    gain_word, pipe_behind, without_job,
 };
 use sh_tree::{
     Action, Command, Element, Expr, Item, Link, Pipe, Redirect, Span, Subject as Parameter, Word,

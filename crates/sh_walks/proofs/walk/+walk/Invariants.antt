@@ -2,7 +2,7 @@ use Rattle.std.proofs.Common.{◌≡◌, fold, take}
 use Rattle.sh_rules.specs.Walked.{trail, nothing_falls}
 use Rattle.sh_rules.specs.Walks as walks
 use Rattle.sh_rules.specs.Steps as steps
-use Rattle.sh_rules.proofs.walk.+walk.Given as goal
+use Rattle.sh_walks.proofs.walk.+walk.Given as goal
 
 -- In each loop what is kept and known is what the pieces so far leave.
 

@@ -1,7 +1,6 @@
 //! Turns of the search: a walk over the script, and what is lowered by it.
-ghost use Rattle.std.specs.Prelude.{◌≡◌, ◌≤◌, ◌⊎◌, ℕ, List, Bool, true, false, [], length, flat_map, Option, IfOk};
+ghost use Rattle.std.specs.Prelude.{◌≡◌, ◌⊎◌, ℕ, List, Bool, true, false, [], length, flat_map, Option, IfOk};
 ghost use Rattle.std.specs.List.{list_all};
-ghost use Rattle.sh_tree.specs.declared.limits.TheConstants.{MAX_NAMES};
 ghost use Rattle.sh_tree.specs.standard.program.Trees.{script_of};
 ghost use Rattle.sh_domain.specs.Faults.{broken};
 ghost use Rattle.sh_domain.specs.Forms.{is_variable};
@@ -15,18 +14,17 @@ ghost use Rattle.sh_drafts.specs.Idle.{IsIdle};
 ghost use Rattle.sh_drafts.specs.Places.{claim_there};
 ghost use Rattle.sh_sweeps.specs.Next.{IsBroken, IsOfScript};
 ghost use Rattle.sh_drafts.specs.Stated.{asked_bounds};
-ghost use Rattle.sh_drafts.specs.Turns.{AreNumbers, IsQuiet, IsSunk, IsTurn, Stands, sheet_by};
+ghost use Rattle.sh_drafts.specs.Turns.{AreNumbers, IsQuiet, IsTurn, Stands, sheet_by};
 ghost use Rattle.sh_sweeps.specs.Asked.{gathered_of};
 ghost use Rattle.sh_drafts.specs.Working.{IsWorking};
-ghost use Rattle.sh_drafts.specs.Writable.{IsWritten, sets_in};
+ghost use Rattle.sh_drafts.specs.Writable.{sets_in};
 ghost use Rattle.sh_drafts.specs.Starts.{start_of};
 
 use crate::asked::ask;
-use crate::gather::Gather;
-use sh_domain::{Certificate, Names};
-use sh_drafts::lower::{count, lower_known};
-use sh_drafts::{Subject, Target, Writable};
+use sh_domain::Certificate;
+use sh_drafts::{Subject, Target};
 use sh_rows::BitRow;
+use sh_sweeps::{Gather, lower_gathered};
 use std::alloc::AllocError;
 
 // All that is asked of the certificate, gathered for a place and a function.
@@ -48,51 +46,6 @@ fn asked(subject: &Subject<'_>, certificate: &Certificate, target: Target) -> Ga
 {
     let gather = Gather::new(target);
     ask(subject, certificate, gather)
-}
-
-/// Lowers the certificate by what was gathered, and says whether it claimed more or had a function
-/// drop less.
-///
-/// # Errors
-///
-/// If a growth was refused or no place for a row is left.
-pub fn lower_gathered(
-    names: &Names,
-    writable: &Writable,
-    certificate: &mut Certificate,
-    probe: &mut BitRow,
-    gather: &Gather,
-) -> Result<bool, AllocError>
-    requires few { length names.now ≤ MAX_NAMES }
-    requires written { IsWritten names.now (sets_in writable.now.vars writable.now.functions) }
-    requires working { (loops : List Bool) × (functions : ℕ) × IsWorking names.now loops functions certificate.old }
-    requires probed { probe.old.count ≡ length names.now }
-    requires numbers { AreNumbers (length names.now) (gathered_of gather.now) }
-    ensures sunk { IfOk result (λ changed. (loops : List Bool) (functions : ℕ) → IsWorking names.now loops functions certificate.old
-        → IsSunk names.now loops functions certificate.old certificate.new (gathered_of gather.now) changed) }
-    ensures idle { IfOk result (λ changed. changed ≡ false → IsIdle certificate.old (sets_in writable.now.vars writable.now.functions) (gathered_of gather.now)) }
-    ensures fits { IfOk result (λ changed. IsIdle certificate.new (sets_in writable.now.vars writable.now.functions) (gathered_of gather.now)) }
-    ensures probed { IfOk result (λ changed. probe.new.count ≡ length names.now) }
-{
-    let target = gather.target;
-    let lowered = lower_known(
-        names,
-        writable,
-        certificate,
-        probe,
-        target.place,
-        &gather.known,
-    )?;
-    let counted = count(
-        names,
-        writable,
-        certificate,
-        probe,
-        target.function,
-        &gather.vars,
-        &gather.functions,
-    )?;
-    Ok(lowered || counted)
 }
 
 // Lowers a certificate at a place and a function where it breaks a flow rule, and says of which

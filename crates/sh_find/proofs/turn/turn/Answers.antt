@@ -9,7 +9,7 @@ use Rattle.sh_drafts.specs.Working.{IsWorking}
 use Rattle.sh_drafts.specs.Starts.{start_of}
 use Rattle.sh_drafts.proofs.ReadyLemmas.{numbered}
 use Rattle.sh_sweeps.proofs.TurnLemmas.{sunk_turn}
-use Rattle.sh_sweeps.proofs.turn.turn.Goals as goal
+use Rattle.sh_find.proofs.turn.turn.Goals as goal
 
 pub asked-gather-requires-clause-sized : goal.asked-gather-requires-clause-sized
 asked-gather-requires-clause-sized c = c.requires.working.working.count

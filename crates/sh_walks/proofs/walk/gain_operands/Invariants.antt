@@ -1,7 +1,7 @@
 use Rattle.std.proofs.Common.{◌≡◌, fold, take}
 use Rattle.sh_rules.specs.Walks as walks
 use Rattle.sh_rules.specs.Steps as steps
-use Rattle.sh_rules.proofs.walk.gain_operands.Given as goal
+use Rattle.sh_walks.proofs.walk.gain_operands.Given as goal
 
 -- what is known so far is what the words so far leave known
 abbrev pub invariant-loop-element : goal.invariant-loop-element

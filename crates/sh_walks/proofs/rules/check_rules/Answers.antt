@@ -1,6 +1,6 @@
 use Rattle.sh_rules.specs.Tells.{least_of}
 use Rattle.sh_rules.proofs.RuleLemmas.{rules_told}
-use Rattle.sh_rules.proofs.rules.check_rules.Goals as goal
+use Rattle.sh_walks.proofs.rules.check_rules.Goals as goal
 
 pub returns : goal.returns
 returns c =

@@ -3,7 +3,7 @@ use Rattle.sh_sweeps.specs.Asked.{gathered_of}
 use Rattle.sh_drafts.specs.Writable.{sets_in}
 use Rattle.sh_drafts.proofs.LowerLemmas.{both_fit, idle_both}
 use Rattle.sh_sweeps.proofs.TurnLemmas.{sunk_both, sunk_then, sunk_else}
-use Rattle.sh_sweeps.proofs.turn.lower_gathered.Goals as goal
+use Rattle.sh_sweeps.proofs.lower.lower_gathered.Goals as goal
 
 pub lower_known-requires-clause-named : goal.lower_known-requires-clause-named
 unfolding gathered_of

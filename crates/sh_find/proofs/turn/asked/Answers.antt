@@ -11,7 +11,7 @@ use Rattle.sh_drafts.specs.Starts.{start_of}
 use Rattle.sh_sweeps.proofs.NextLemmas.{all_fitting, next_broken}
 use Rattle.sh_sweeps.proofs.StayLemmas.{idle_whole}
 use Rattle.sh_sweeps.proofs.TurnLemmas.{asked_numbers, asked_quiet, asked_rules, asked_stands}
-use Rattle.sh_sweeps.proofs.turn.asked.Goals as goal
+use Rattle.sh_find.proofs.turn.asked.Goals as goal
 
 pub returns-clause-numbers : goal.returns-clause-numbers
 returns-clause-numbers c =

@@ -2,7 +2,7 @@
 //! each, what is round it and what is known there (XCU 2.9, 2.13).
 ghost use Rattle.std.specs.Prelude.{◌≡◌, fold};
 ghost use Rattle.sh_tree.specs.standard.program.Trees.{script_of};
-ghost use Rattle.sh_rules.specs.Behind.{both, turns};
+ghost use Rattle.sh_rules.specs.Behind.{turns};
 ghost use Rattle.sh_rules.specs.Settings.{Setting};
 ghost use Rattle.sh_rules.specs.Walked as spec;
 ghost use Rattle.sh_rules.specs.Walked.{Met, trail};
@@ -10,11 +10,11 @@ ghost use Rattle.sh_rules.specs.Steps as steps;
 ghost use Rattle.sh_rules.specs.Walks as walks;
 ghost use Rattle.sh_rules.specs.Walks.{facts_in, setting};
 
-use crate::around::{Around, alone, in_function};
-use crate::behind::{Behind, met, pipe_behind, without_job};
-use crate::claims::Claims;
-use crate::gains::{enter_operator, gain_action, gain_assigned, gain_variable, gain_word};
 use sh_domain::{FlowRule, Knowledge};
+use sh_rules::{
+    Around, Claims, Course, alone, begun, enter_operator, gain_action, gain_assigned,
+    gain_variable, gain_word, in_function, met, pipe_behind, without_job,
+};
 use sh_tree::{
     AndOr, Binary, Branch, Clause, Command, Element, Expr, Item, Items, Kind, Link, LoopKind,
     ParameterOperator, Part, Pipe, Redirect, Script, Span, Subject, Target, Word,
@@ -42,25 +42,7 @@ pub trait Visitor {
         ensures { kept self.new ≡ with_met (setting claims.now) (kept self.old) (steps.met_in (setting claims.now) by around.now known.now command.now) };
 }
 
-/// Where a walk is in a list: the rule that enters what comes next, and what is known there.
-#[derive(Clone, Copy)]
-pub struct Course {
-    pub by: FlowRule,
-    pub behind: Behind,
-}
-
-/// At the start of a list that this rule enters, with this known.
-pub fn begun(by: FlowRule, known: &Knowledge) -> Course
-    ensures by { result.by ≡ by }
-    ensures behind { (x : Setting) → walks.behind_in x result.behind ≡ both (facts_in x known.now) }
-{
-    Course {
-        by,
-        behind: Behind::both(known),
-    }
-}
-
-#[tactic(auto, using(crate::proofs::GainLemmas::operand_elements))]
+#[tactic(auto, using(sh_rules::proofs::GainLemmas::operand_elements))]
 fn gain_operand(claims: &Claims<'_>, element: &Element, known: &mut Knowledge)
     ensures { facts_in (setting claims.now) known.new ≡ steps.element_gained (setting claims.now) (facts_in (setting claims.now) known.old) element.now }
 {
@@ -81,7 +63,7 @@ fn gain_operands(claims: &Claims<'_>, elements: &[Element], known: &mut Knowledg
 }
 
 #[cycle(walk)]
-#[tactic(auto, using(crate::proofs::WalkLemmas::script_out))]
+#[tactic(auto, using(sh_rules::proofs::WalkLemmas::script_out))]
 fn walk_script<V: Visitor>(
     claims: &Claims<'_>,
     around: &Around<'_>,
@@ -110,7 +92,7 @@ fn walk_items<V: Visitor>(
 }
 
 #[cycle(walk)]
-#[tactic(auto, using(crate::proofs::WalkLemmas::item_out))]
+#[tactic(auto, using(sh_rules::proofs::WalkLemmas::item_out))]
 fn walk_item<V: Visitor>(
     claims: &Claims<'_>,
     around: &Around<'_>,
@@ -128,7 +110,7 @@ fn walk_item<V: Visitor>(
 
 // The list of an item before which this is known in any case.
 #[cycle(walk)]
-#[tactic(auto, using(crate::proofs::WalkLemmas::foreground, crate::proofs::WalkLemmas::background))]
+#[tactic(auto, using(sh_rules::proofs::WalkLemmas::foreground, sh_rules::proofs::WalkLemmas::background))]
 fn enter_item<V: Visitor>(
     claims: &Claims<'_>,
     around: &Around<'_>,
@@ -149,7 +131,7 @@ fn enter_item<V: Visitor>(
 }
 
 #[cycle(walk)]
-#[tactic(auto, using(crate::proofs::WalkLemmas::and_or_out, crate::proofs::WalkLemmas::no_links))]
+#[tactic(auto, using(sh_rules::proofs::WalkLemmas::and_or_out, sh_rules::proofs::WalkLemmas::no_links))]
 fn walk_and_or<V: Visitor>(
     claims: &Claims<'_>,
     by: FlowRule,
@@ -189,7 +171,7 @@ fn walk_links<V: Visitor>(
 }
 
 #[cycle(walk)]
-#[tactic(auto, using(crate::proofs::WalkLemmas::link_out))]
+#[tactic(auto, using(sh_rules::proofs::WalkLemmas::link_out))]
 fn walk_link<V: Visitor>(
     claims: &Claims<'_>,
     around: &Around<'_>,
@@ -212,7 +194,7 @@ fn walk_link<V: Visitor>(
 }
 
 #[cycle(walk)]
-#[tactic(auto, using(crate::proofs::WalkLemmas::no_parts, crate::proofs::WalkLemmas::one_part, crate::proofs::WalkLemmas::more_parts))]
+#[tactic(auto, using(sh_rules::proofs::WalkLemmas::no_parts, sh_rules::proofs::WalkLemmas::one_part, sh_rules::proofs::WalkLemmas::more_parts))]
 fn walk_pipe<V: Visitor>(
     claims: &Claims<'_>,
     by: FlowRule,
@@ -252,7 +234,7 @@ fn walk_commands<V: Visitor>(
 }
 
 #[cycle(walk)]
-#[tactic(auto, using(crate::proofs::WalkLemmas::command_out))]
+#[tactic(auto, using(sh_rules::proofs::WalkLemmas::command_out))]
 fn walk_command<V: Visitor>(
     claims: &Claims<'_>,
     by: FlowRule,
@@ -291,7 +273,7 @@ fn walk_redirects<V: Visitor>(
 }
 
 #[cycle(walk)]
-#[tactic(auto, using(crate::proofs::WalkLemmas::targets))]
+#[tactic(auto, using(sh_rules::proofs::WalkLemmas::targets))]
 fn walk_target<V: Visitor>(
     claims: &Claims<'_>,
     known: &mut Knowledge,
@@ -307,7 +289,7 @@ fn walk_target<V: Visitor>(
 }
 
 #[cycle(walk)]
-#[tactic(auto, using(crate::proofs::WalkLemmas::kinds), unfolding(crate::specs::Steps::for_words_kept))]
+#[tactic(auto, using(sh_rules::proofs::WalkLemmas::kinds), unfolding(sh_rules::specs::Steps::for_words_kept))]
 fn walk_kind<V: Visitor>(
     claims: &Claims<'_>,
     around: &Around<'_>,
@@ -374,7 +356,7 @@ fn walk_definition<V: Visitor>(claims: &Claims<'_>, name: Span, body: &Command, 
 }
 
 #[cycle(walk)]
-#[tactic(auto, using(crate::proofs::WalkLemmas::from_made))]
+#[tactic(auto, using(sh_rules::proofs::WalkLemmas::from_made))]
 fn walk_from<V: Visitor>(
     claims: &Claims<'_>,
     around: &Around<'_>,
@@ -391,7 +373,7 @@ fn walk_from<V: Visitor>(
 
 // The condition of a loop, and what its body is entered with.
 #[cycle(walk)]
-#[tactic(auto, using(crate::proofs::WalkLemmas::condition_known, crate::proofs::WalkLemmas::condition_kept))]
+#[tactic(auto, using(sh_rules::proofs::WalkLemmas::condition_known, sh_rules::proofs::WalkLemmas::condition_kept))]
 fn walk_condition<V: Visitor>(
     claims: &Claims<'_>,
     around: &Around<'_>,
@@ -468,7 +450,7 @@ fn walk_elements<V: Visitor>(
 
 // An element: values and redirections are judged after all words.
 #[cycle(walk)]
-#[tactic(auto, using(crate::proofs::WalkLemmas::elements))]
+#[tactic(auto, using(sh_rules::proofs::WalkLemmas::elements))]
 fn walk_element<V: Visitor>(
     claims: &Claims<'_>,
     known: &mut Knowledge,
@@ -504,7 +486,7 @@ fn walk_branches<V: Visitor>(
 }
 
 #[cycle(walk)]
-#[tactic(auto, using(crate::proofs::WalkLemmas::branch_made))]
+#[tactic(auto, using(sh_rules::proofs::WalkLemmas::branch_made))]
 fn walk_branch<V: Visitor>(
     claims: &Claims<'_>,
     around: &Around<'_>,
@@ -522,7 +504,7 @@ fn walk_branch<V: Visitor>(
 }
 
 #[cycle(walk)]
-#[tactic(auto, unfolding(crate::specs::Steps::otherwise_kept))]
+#[tactic(auto, unfolding(sh_rules::specs::Steps::otherwise_kept))]
 fn walk_otherwise<V: Visitor>(
     claims: &Claims<'_>,
     around: &Around<'_>,
@@ -539,7 +521,7 @@ fn walk_otherwise<V: Visitor>(
 }
 
 #[cycle(walk)]
-#[tactic(auto, using(crate::proofs::BehindLemmas::nothing_known))]
+#[tactic(auto, using(sh_rules::proofs::BehindLemmas::nothing_known))]
 fn walk_case<V: Visitor>(
     claims: &Claims<'_>,
     around: &Around<'_>,
@@ -556,7 +538,7 @@ fn walk_case<V: Visitor>(
 }
 
 #[cycle(walk)]
-#[tactic(auto, using(crate::proofs::WalkLemmas::clause_made))]
+#[tactic(auto, using(sh_rules::proofs::WalkLemmas::clause_made))]
 fn walk_clause<V: Visitor>(
     claims: &Claims<'_>,
     around: &Around<'_>,
@@ -619,7 +601,7 @@ fn walk_parts<V: Visitor>(
 }
 
 #[cycle(walk)]
-#[tactic(auto, using(crate::proofs::WalkLemmas::parts))]
+#[tactic(auto, using(sh_rules::proofs::WalkLemmas::parts))]
 fn walk_part<V: Visitor>(claims: &Claims<'_>, known: &mut Knowledge, part: &Part, visitor: &mut V)
     ensures { trail (facts_in (setting claims.now) known.new) (V.kept visitor.new) ≡ steps.part_step (setting claims.now) (V.with_met (setting claims.now)) (trail (facts_in (setting claims.now) known.old) (V.kept visitor.old)) part.now }
 {
@@ -646,7 +628,7 @@ fn walk_part<V: Visitor>(claims: &Claims<'_>, known: &mut Knowledge, part: &Part
 }
 
 #[cycle(walk)]
-#[tactic(auto, using(crate::proofs::WalkLemmas::operators))]
+#[tactic(auto, using(sh_rules::proofs::WalkLemmas::operators))]
 fn walk_operator<V: Visitor>(
     claims: &Claims<'_>,
     known: &mut Knowledge,
@@ -684,7 +666,7 @@ fn walk_operands<V: Visitor>(
 }
 
 #[cycle(walk)]
-#[tactic(auto, using(crate::proofs::WalkLemmas::expressions))]
+#[tactic(auto, using(sh_rules::proofs::WalkLemmas::expressions))]
 fn walk_expression<V: Visitor>(
     claims: &Claims<'_>,
     known: &mut Knowledge,
@@ -714,7 +696,7 @@ fn walk_expression<V: Visitor>(
 
 /// Visits each command of a script, those in its words included, with this known at its start. A
 /// command comes before those in its redirections and those in it. The walk takes no memory.
-#[tactic(auto, using(crate::proofs::WalkLemmas::whole_out))]
+#[tactic(auto, using(sh_rules::proofs::WalkLemmas::whole_out))]
 pub fn walk<V: Visitor>(claims: &Claims<'_>, start: &Knowledge, list: &Script, visitor: &mut V)
     ensures { V.kept visitor.new ≡ spec.script_walked (setting claims.now) (V.with_met (setting claims.now)) (facts_in (setting claims.now) start.now) (V.kept visitor.old) (script_of (setting claims.now).script list.now) }
 {

@@ -2,7 +2,7 @@ use Rattle.std.proofs.Common.{true, false}
 use Rattle.sh_sweeps.specs.Asked.{asking_by, gathered_of}
 use Rattle.sh_sweeps.proofs.AskingLemmas.{walk_asks}
 use Rattle.sh_drafts.proofs.ReadyLemmas.{numbered}
-use Rattle.sh_sweeps.proofs.asked.ask.Goals as goal
+use Rattle.sh_find.proofs.asked.ask.Goals as goal
 
 pub returns-then-subject : goal.returns-then-subject
 unfolding asking_by
