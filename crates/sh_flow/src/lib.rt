@@ -1,6 +1,6 @@
 //! The check of a certificate against a script: the flow rules first, then the demands. `laws` says
 //! what a certificate that passes is good for in the runs of the script. A compact certificate is
-//! filled first (`sh_find::fill`), and then checked as any other.
+//! filled, and then checked as any other.
 #![tactic(auto)]
 
 mod flow;
@@ -8,3 +8,4 @@ pub mod laws;
 
 pub use flow::{Flow, check_flow};
 pub use sh_domain::FlowRule;
+pub use sh_find::fill;
