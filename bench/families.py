@@ -293,7 +293,7 @@ def numbered(line, most, size):
 
 
 def of(*parts):
-    """Scripts of these parts. A text stands once, and lines share what room is left."""
+    """Scripts of these parts. A text is there once, and lines share what room is left."""
     texts = [part for part in parts if isinstance(part, str)]
 
     def made(size):
@@ -314,17 +314,17 @@ def one_name(size):
 
 
 def long_ends(size):
-    """A here-document whose lines are the front of its end."""
+    """A here-document whose lines are a prefix of its end line."""
     end = "E" * (size // 8)
     return f"cat <<{end}\n" + (end[1:] + "\n") * 6 + end + "\n"
 
 
 def told_within(size):
-    """Pipelines in parts of pipelines, each of which is told."""
+    """Pipelines in parts of pipelines, each with a finding."""
     return unset_of(size) + of(each(within("{ ", "f | a", "; } | a", 50)))(size // 2)
 
 
-# Families of lines: of reading, of sets of names, of calls, of loops, and of what is told.
+# Families of lines: of reading, of sets of names, of calls, of loops, and of findings.
 LINED = {
     "assignments": of(each("vN=x\n")),
     "assigned and used": of(each('vN=x; echo "$vN"\n')),

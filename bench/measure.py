@@ -51,7 +51,7 @@ MOST_GROWTH = 2.3
 # How long a certificate may be, in lengths of its script, and its check, in times of `lint`.
 MOST_LENGTH = 2
 MOST_CHECK = 1.5
-# Less is not told from what a process itself takes.
+# Less cannot be distinguished from what a process itself takes.
 LEAST_SECONDS = 0.01
 SHOW_STEPS = os.path.join(HERE, "..", "crates", "show_steps", "out", "show_steps")
 # Other processes disturb so short a time, so it is the least of more runs.
