@@ -84,7 +84,15 @@ fn asked_of(
     ensures stands { (other : Sheet) → Keeps subject.now other → Stands subject.now.names.now other (gathered_of result) }
 {
     let mut gather = Gather::new(target);
-    tell(subject, certificate, by, around, known, command, &mut gather);
+    tell(
+        subject,
+        certificate,
+        by,
+        around,
+        known,
+        command,
+        &mut gather,
+    );
     gather
 }
 
