@@ -22,8 +22,8 @@ fn rows_of(facts: Facts) -> (RowId, RowId) {
     }
 }
 
-// The place of a row of these numbers, which is added if there is none. It is likely one of these
-// two: to compare them takes less than to look the row up.
+// The place of a row of these numbers, which is added if there is none. Two rows are compared first,
+// since that takes less time than to hash the numbers.
 fn intern(
     rows: &mut Rows,
     probe: &mut BitRow,
@@ -49,8 +49,8 @@ fn intern(
     rows.intern(probe)
 }
 
-/// The facts that are seen, by the places of their rows. A row that is not there is added. Their rows
-/// are likely those of one of these two facts.
+/// The facts that are seen, by the places of their rows. A row that is not there is added. The rows
+/// of these two facts are compared first.
 ///
 /// # Errors
 ///

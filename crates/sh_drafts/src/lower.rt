@@ -19,8 +19,7 @@ use sh_domain::{Certificate, Drops, Facts, Names, NumberSet, RowId, Rows};
 use sh_rows::BitRow;
 use std::alloc::AllocError;
 
-// What is claimed at a place of the command, or of the one before it, that a sweep comes to first: a
-// hint.
+// What is claimed at an earlier place of the command, or at one of the command before it: a hint.
 fn facts_near(certificate: &Certificate, place: Place) -> Facts {
     let index = match place.part {
         Part::Before => place.index.saturating_sub(1),
@@ -123,8 +122,8 @@ fn are_in_rows(rows: &Rows, drops: Drops, vars: &NumberSet, functions: &NumberSe
     vars.is_in_row(rows, drops.vars) && functions.is_in_row(rows, drops.functions)
 }
 
-// The places of rows of these variables and these functions. A row that is not there is added. One
-// of them is likely kept so far.
+// The places of rows of these variables and these functions. A row that is not there is added. The
+// rows of the drops so far are compared first.
 fn keep_drops(
     rows: &mut Rows,
     probe: &mut BitRow,
