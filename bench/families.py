@@ -35,11 +35,6 @@ def straight(size):
     return text_of(joined(lines, size))
 
 
-def straight_short(size):
-    """The same with four commands for one."""
-    return text_of(joined([f'v{number % 3000}=x; a "$v{number % 3000}"; b' for number in range(size // 15)], size))
-
-
 def count_of(size, sample, most=MOST_NAMES):
     """How many lines of the length of a sample fit."""
     return max(2, min(most, size // (len(sample) + 1)))
@@ -506,14 +501,6 @@ ROUNDS = {
     "told by parts": findings_of,
     "told in parts of parts": findings_of,
 }
-# A script has short commands if it has more than one for so many bytes.
-LONG_COMMAND = 14
-
-
-def straight_beside(text):
-    """The straight script that a family is held to: as long, and of short commands if the family's are short."""
-    commands = sum(text.count(sign) for sign in ";\n|&(")
-    return (straight_short if len(text) < LONG_COMMAND * commands else straight)(len(text))
 
 
 def limit_of(name, text, lines):

@@ -33,7 +33,7 @@ import subprocess
 import sys
 import tempfile
 
-from families import FAMILIES, certificate_limit, limit_of, straight_beside
+from families import FAMILIES, certificate_limit, limit_of, straight
 
 SIZES = (10_000, 100_000, 1_000_000)
 # The longest scripts of short lines, of pipelines, and of functions or loops, which have nearly as many commands as there may be.
@@ -333,7 +333,7 @@ def measure_family(name, folder):
     is_good, before = True, {}
     for times in (1, 2, 4):
         text = made(FAMILY_SIZE * times)
-        for at, content in ((path, text), (beside, straight_beside(text))):
+        for at, content in ((path, text), (beside, straight(len(text)))):
             with open(at, "w", encoding="ascii") as file:
                 file.write(content)
         plain = {action: take(words) for action, words in family_runs((), beside).items()}
