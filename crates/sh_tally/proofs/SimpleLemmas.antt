@@ -16,6 +16,7 @@ use Rattle.sh_table.specs.declared.kind.Kind.{Kind}
 use Rattle.sh_table.specs.declared.kind.Kind.TheVariants as kind
 use Rattle.sh_table.specs.standard.Kinds.{kind_of}
 use Rattle.sh_table.specs.standard.runs.Environment.{is_one_of}
+use Rattle.sh_table.specs.standard.runs.Operands.{has_command}
 use Rattle.sh_operands.specs.declared.counts.Total as code
 use Rattle.sh_operands.specs.Fields.{counted, counted_word, no_fields}
 use Rattle.sh_operands.specs.Numerals.{most, capped}
@@ -28,7 +29,7 @@ use Rattle.sh_domain.specs.Faults.{broken}
 use Rattle.sh_domain.specs.Gains.{Gains, and_gains, named}
 use Rattle.sh_domain.specs.Inclusions.{Each}
 use Rattle.sh_domain.specs.Names.{number_of}
-use Rattle.sh_domain.specs.Operands.{Total, first_number, total}
+use Rattle.sh_domain.specs.Operands.{Total, declared_names, first_number, runs_command, total, unset_names}
 use Rattle.sh_domain.specs.Order.{IsWithin, seen_facts}
 use Rattle.sh_domain.specs.Rules as r
 use Rattle.sh_domain.specs.Rules.{Constraint, bound, functions_of, leaves, simple_bounds}
@@ -57,7 +58,7 @@ use Rattle.sh_tally.specs.Tallies.{AreBounds, Bounds, Tallies}
 use Rattle.sh_tally.specs.Views.{Sees, command_index, function_index, index_of}
 use Rattle.sh_tally.specs.Walks.{AddsFunction, AddsLeaves, AddsManner, AddsReturn, AddsSimple, AreKept, AreTexts, IsBehind, IsReached, Keeps, Sight, SightAfter, names}
 use Rattle.sh_tally.proofs.CountLemmas.{views_bound_counts, within_at_most}
-use Rattle.sh_tally.proofs.ViewLemmas.{made_then, map_middle, pass_then, see_right}
+use Rattle.sh_tally.proofs.ViewLemmas.{made_then, map_middle, pass_then, see_lost, see_named, see_right}
 use Rattle.sh_tally.proofs.WalkLemmas.{count_at_most, count_below, entered_within, place_bounds}
 
 -- Words that are counted
@@ -313,6 +314,15 @@ module _ (s : Tally) (y : Around) (n : ℕ) (es : p.Elements) (left : Views) whe
   utility_added of ws after old new is both adds t u k here kept =
       adds t u k F4 (views.Both behind) (both behind here.words) (subst (λ o. AreKept s t u k (leaves n F4 o)) is (utility_kept t u k of ws kept))
 
+  -- one after which the same parameters are left
+  leaves_added : (of : Kind) (ws : List Word) (after : After) (old new : Equations)
+      → (IsBehind s n es left → Sight s (views.if_zero (left_by of ws)) left × Sight s (views.if_nonzero (left_by of ws)) left)
+      → ((q : Seen) → Sight s q left → SightAfter s (views.Both q) after) → AddsLeaves s n after old new
+      → AddsManner s y n es left (Utility of ws) old new
+  leaves_added of ws after old new sights both adds t u k here kept =
+      let seen = sights here in
+      adds t u k F4 (left_by of ws) (both_sights after both (left_by of ws) seen.0 seen.1) (utility_kept t u k of ws kept)
+
   -- one that leaves this with a status of zero
   zero_added : (of : Kind) (ws : List Word) (place : count.Count) (old new : Equations) → place.index ≡ command_index part.Zero n
       → (IsBehind s n es left → Sight s (views.if_zero (left_by of ws)) left) → ((u : ℕ → ℕ) → AreBounds s.places u place (Raise 0) left → Tallies s.places u old new)
@@ -343,6 +353,35 @@ module _ (s : Tally) (y : Around) (n : ℕ) (es : p.Elements) (left : Views) whe
     pub colon_added : (place : count.Count) → place.index ≡ command_index part.Zero n → ((u : ℕ → ℕ) → AreBounds s.places u place (Raise 0) left → Tallies s.places u old new) → Added (kind.Special known.Colon)
     unfolding table.after_utility views.if_zero
     colon_added place is = zero_added (kind.Special known.Colon) ws place old new is settled_sight
+
+    pub settled_added : (after : After) → ((q : Seen) → Sight s q left → SightAfter s (views.Both q) after) → AddsLeaves s n after old new
+        → Added (kind.Special known.Export) × Added (kind.Special known.Readonly) × Added (kind.Special known.Unset) × Added (kind.Special known.Times) × Added (kind.Special known.Trap)
+    unfolding table.after_utility views.if_zero views.if_nonzero
+    settled_added after both adds = (
+      leaves_added (kind.Special known.Export) ws after old new (λ here. let q = see_named (names s) settled left (declared_names ws) (settled_sight here) in (q, q)) both adds,
+      leaves_added (kind.Special known.Readonly) ws after old new (λ here. let q = see_named (names s) settled left (declared_names ws) (settled_sight here) in (q, q)) both adds,
+      leaves_added (kind.Special known.Unset) ws after old new (λ here. let q = see_lost (names s) settled (unset_names ws) left (settled_sight here) in (q, q)) both adds,
+      leaves_added (kind.Special known.Times) ws after old new (λ here. (settled_sight here, settled_sight here)) both adds,
+      leaves_added (kind.Special known.Trap) ws after old new (λ here. (settled_sight here, settled_sight here)) both adds,
+    )
+
+    pub read_added : (after : After) → ((q : Seen) → Sight s q left → SightAfter s (views.Both q) after) → AddsLeaves s n after old new
+        → Added kind.Read × Added kind.Getopts
+    unfolding table.after_utility views.if_zero views.if_nonzero
+    read_added after both adds = (
+      leaves_added kind.Read ws after old new (λ here. (see_named (names s) behind left _ here.words, here.words)) both adds,
+      leaves_added kind.Getopts ws after old new (λ here. (see_lost (names s) _ _ left (see_named (names s) behind left _ here.words), see_lost (names s) behind _ left here.words)) both adds,
+    )
+
+    pub exec_added : (after : After) → runs_command ws ≡ false → ((q : Seen) → Sight s q left → SightAfter s (views.Both q) after) → AddsLeaves s n after old new → Added (kind.Special known.Exec)
+    unfolding table.after_utility views.if_zero views.if_nonzero
+    exec_added after none both adds =
+        leaves_added (kind.Special known.Exec) ws after old new
+        (λ here. (subst (λ b. Sight s (if b then views.anything else settled) left) (sym none) (settled_sight here), settled_sight here)) both adds
+
+    pub exec_failed : (place : count.Count) → place.index ≡ command_index part.Nonzero n → ((u : ℕ → ℕ) → AreBounds s.places u place (Raise 0) left → Tallies s.places u old new) → Added (kind.Special known.Exec)
+    unfolding table.after_utility views.if_nonzero
+    exec_failed place is = nonzero_added (kind.Special known.Exec) ws place old new is settled_sight
 
     pub true_added : (place : count.Count) → place.index ≡ command_index part.Zero n → ((u : ℕ → ℕ) → AreBounds s.places u place (Raise 0) left → Tallies s.places u old new) → Added kind.True
     unfolding table.after_utility views.if_zero
@@ -546,3 +585,15 @@ first_rest (y ∷ ys) x some is = ap (λ z. z ∷ ys) (sym is) ∙ ap (λ zs. x 
 pub none_mapped : {X Y : Type 0} (f : X → Y) (xs : List X) → length xs < 1 → map f xs ≡ []
 none_mapped f [] few = refl
 none_mapped f (x ∷ xs) few = absurd (omega (arith, few))
+
+-- `exec` without a static operand runs no command that is known
+
+pub nothing_run : (ws : List Word) → map static_of ws ≡ [] → runs_command ws ≡ false
+unfolding runs_command
+nothing_run [] is = refl
+nothing_run (w ∷ ws) is = absurd (let e = ap length is in omega (arith, e))
+
+pub unknown_run : (ws : List Word) (xs : List Static) → map static_of ws ≡ None ∷ xs → runs_command ws ≡ false
+unfolding runs_command
+unknown_run [] xs is = refl
+unknown_run (w ∷ ws) xs is = ap (λ o. unwrap_or (option_map (λ t. has_command (t ∷ [])) o) false) (ap (λ l. get_or l 0 None) is)

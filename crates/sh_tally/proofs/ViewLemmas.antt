@@ -2,6 +2,7 @@
 use Rattle.std.proofs.Common.{◌≡◌, ℕ, ◌≤◌, true, false, max, List, [], ◌∷◌, ◌++◌, append_assoc, map, Option, Some, None, is_some, IfSome, refl, sym, ap, ◌∙◌, subst, arith, true≢false}
 use Rattle.sh_tree.specs.standard.program.Syntax.{Text}
 use Rattle.sh_domain.specs.Gains.{Gains, named}
+use Rattle.sh_domain.specs.Operands.{Names}
 use Rattle.sh_domain.specs.Views as views
 use Rattle.sh_domain.specs.Views.{Certificate, Slot, Seen, Step, Define, Gain, Lose, At, extended, stepped, gaining, if_zero, if_nonzero, swapped, in_any_case, Both, Each}
 use Rattle.sh_tally.specs.declared.views.After.{After}
@@ -149,8 +150,11 @@ module _ (functions : List Text) where
   unfolding made_by
   lose_more d h m n le = le
 
+  lost_sees : (q : Seen) (d : Names) (h : View) → Sees functions q h → Sees functions (stepped (Lose d) q) h
+  lost_sees q d h s = stepped_sees q (Lose d) h h (lose_pass d) (lose_more d h.least) refl s
+
   pub started_sees : (q : Seen) (h : View) → Sees functions q h → Sees functions (views.without_job q) h
-  started_sees q h s = stepped_sees q (Lose _) h h (lose_pass _) (lose_more _ h.least) refl s
+  started_sees q h s = lost_sees q _ h s
 
   pub at_sees : (slot : Slot) (h : View) → h.least ≡ 0 → index_of functions slot ≡ Some h.source.index → Sees functions (views.at slot) h
   unfolding all_made AllPass
@@ -192,6 +196,10 @@ module _ (functions : List Text) where
 
   pub see_defined : (q : Seen) (f : Text) (k : Views) → See functions q k → See functions (stepped (Define f) q) k
   see_defined q f k s = record { first = each_some k.first _ _ (defined_sees q f) s.first; second = each_some k.second _ _ (defined_sees q f) s.second }
+
+  -- names that are lost take no parameters
+  pub see_lost : (q : Seen) (d : Names) (k : Views) → See functions q k → See functions (stepped (Lose d) q) k
+  see_lost q d k s = record { first = each_some k.first _ _ (lost_sees q d) s.first; second = each_some k.second _ _ (lost_sees q d) s.second }
 
   pub see_started : (q : Seen) (k : Views) → See functions q k → See functions (views.without_job q) k
   see_started q k s = record { first = each_some k.first _ _ (started_sees q) s.first; second = each_some k.second _ _ (started_sees q) s.second }

@@ -153,8 +153,7 @@ impl Tally<'_> {
         Ok(())
     }
 
-    // Adds bounds of the counts after a utility of a kind. After `read` and `getopts` they
-    // stay as they are claimed.
+    // Adds bounds of the counts after a utility of a kind.
     fn utility(
         &self,
         equations: &mut Equations,
@@ -173,12 +172,14 @@ impl Tally<'_> {
             Kind::Utility => self.leaves(equations, number, After::both(left)),
             Kind::True => self.bound(equations, Part::Zero.of(number), left, Change::NONE),
             Kind::False => self.bound(equations, Part::Nonzero.of(number), left, Change::NONE),
-            Kind::Read | Kind::Getopts | Kind::Special(_) => Ok(()),
+            Kind::Read => self.leaves(equations, number, After::both(left)),
+            Kind::Getopts => self.leaves(equations, number, After::both(left)),
+            Kind::Special(_) => Ok(()),
         }
     }
 
-    // Adds bounds of the counts after a special built-in utility. After all except `:`,
-    // `set` and `shift` they stay as they are claimed.
+    // Adds bounds of the counts after a special built-in utility. If it ends the shell, or runs
+    // what is in no reading of the script, the counts stay as they are claimed.
     fn special(
         &self,
         equations: &mut Equations,
@@ -196,7 +197,35 @@ impl Tally<'_> {
             KnownName::Colon => self.bound(equations, Part::Zero.of(number), left, Change::NONE),
             KnownName::Set => self.set(equations, around, number, texts, elements, left),
             KnownName::Shift => self.shift(equations, around, number, texts, elements, left),
+            KnownName::Exec => self.exec(equations, around, number, texts, elements, left),
+            KnownName::Export => self.leaves(equations, number, After::both(left)),
+            KnownName::Readonly => self.leaves(equations, number, After::both(left)),
+            KnownName::Unset => self.leaves(equations, number, After::both(left)),
+            KnownName::Times => self.leaves(equations, number, After::both(left)),
+            KnownName::Trap => self.leaves(equations, number, After::both(left)),
             _ => Ok(()),
+        }
+    }
+
+    // With an operand it may run a command in place of the shell, and then nothing comes after it.
+    fn exec(
+        &self,
+        equations: &mut Equations,
+        around: &Around<'_>,
+        number: u32,
+        texts: &[WordText],
+        elements: &[Element],
+        left: Views,
+    ) -> Result<(), AllocError>
+        ensures { IfOk result (λ unit. (ws : List Word) → map static_of ws ≡ map (text_in self.now.script.now) texts.now
+            → AddsManner self.now (walks.around self.now.script.now around.now) number (elements_from self.now.script.now elements.now) left (table.Utility (kind.Special known.Exec) ws) equations.old equations.new) }
+    {
+        match texts {
+            [] => self.leaves(equations, number, After::both(left)),
+            [first, ..] => match first.get(self.script) {
+                Some(_) => self.bound(equations, Part::Nonzero.of(number), left, Change::NONE),
+                None => self.leaves(equations, number, After::both(left)),
+            },
         }
     }
 

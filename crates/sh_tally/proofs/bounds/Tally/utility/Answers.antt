@@ -4,7 +4,7 @@ use Rattle.sh_tree.specs.Lists.{elements_from}
 use Rattle.sh_domain.specs.Table as table
 use Rattle.sh_rules.specs.Walks as walks
 use Rattle.sh_tally.specs.Walks.{AddsManner, names}
-use Rattle.sh_tally.proofs.SimpleLemmas.{false_added, neutral_added, true_added}
+use Rattle.sh_tally.proofs.SimpleLemmas.{false_added, neutral_added, read_added, true_added}
 use Rattle.sh_tally.proofs.bounds.Tally.utility.Goals as goal
 
 pub returns-in-Cd : goal.returns-in-Cd
@@ -66,3 +66,23 @@ returns-in-False c =
     (λ unit adds ws. subst (λ k. AddsManner s y c.args.number es c.args.left (table.Utility k ws) c.args.equations.now c.bound-in-False.new.equations) (sym c.in-False.is)
     (false_added s y c.args.number es c.args.left ws c.args.equations.now c.bound-in-False.new.equations c.of-in-False.result c.of-in-False.ensures adds))
     c.bound-in-False.ensures
+
+pub returns-in-Read : goal.returns-in-Read
+returns-in-Read c =
+    let s = c.args.self.now in
+    let y = walks.around s.script.now c.args.around.now in
+    let es = elements_from s.script.now c.args.elements.now in
+    IfOk-weaker c.leaves-in-Read.result _ _
+    (λ unit adds ws. subst (λ k. AddsManner s y c.args.number es c.args.left (table.Utility k ws) c.args.equations.now c.leaves-in-Read.new.equations) (sym c.in-Read.is)
+    ((read_added s y c.args.number es c.args.left ws c.args.equations.now c.leaves-in-Read.new.equations c.both-in-Read.result (c.both-in-Read.ensures (names s)) adds).0))
+    c.leaves-in-Read.ensures
+
+pub returns-in-Getopts : goal.returns-in-Getopts
+returns-in-Getopts c =
+    let s = c.args.self.now in
+    let y = walks.around s.script.now c.args.around.now in
+    let es = elements_from s.script.now c.args.elements.now in
+    IfOk-weaker c.leaves-in-Getopts.result _ _
+    (λ unit adds ws. subst (λ k. AddsManner s y c.args.number es c.args.left (table.Utility k ws) c.args.equations.now c.leaves-in-Getopts.new.equations) (sym c.in-Getopts.is)
+    ((read_added s y c.args.number es c.args.left ws c.args.equations.now c.leaves-in-Getopts.new.equations c.both-in-Getopts.result (c.both-in-Getopts.ensures (names s)) adds).1))
+    c.leaves-in-Getopts.ensures
