@@ -89,6 +89,13 @@ def shift_nested(size):
     return text_of(joined([one] * size, size))
 
 
+def shift_beside(line):
+    """Losing parameters turn by turn, beside commands that keep them."""
+    def made(size):
+        return "f() { :; }\nwhile a; do shift\n" + f"{line}\n" * ((size - 40) // (len(line) + 1)) + "done\n"
+    return made
+
+
 def chain(order):
     def made(size):
         count = count_of(size, "f1000() { f1000; }")
@@ -423,6 +430,9 @@ LINED = {
     "defined again": of(each("f() { vN=1; }\nf\n")),
     "defined again, then called": of(each("f() { unset vN; }\n"), each("f\n")),
     "defined again between": of(each("f() { unset vN; a || f; }\nf\nvN=\n")),
+    "defined again, in turn": of(each("fN() { unset vN; }\nvN=x\n", 60), each("fN; fM\n", 60)),
+    "defined again, in one": of("h() {\n", each("fN() {\na && fN && unset -f fM\n}\n", 60), each("fN() { f; unset vN; }\nfN\na && g\n", 400), "}\nh\n"),
+    "defined again, in a loop": of("while a; do\n", each("fN() { unset vN; }\nvN=x\n", 60), each("while a; do unset vN; done\nif fN; then fM; else unset vN; fi\n{ fN; vN=$(fM); }\n", 60), "done\n"),
     "entries of one body": of(each("vN=\n"), "f() {\n", each('b "$vN"\n'), "}\n", each("unset vN; f\n")),
     "entries by functions": of(each("vN=\n", 1900), "f() { :; }\n", each("gN() { f; }; unset vN; gN\n", 1900)),
     "entries of functions": of(each("vN=\n", 1900), "f() { :; }\n", each("gN() { unset vN; f; }\n", 1900), each("gN\n", 1900)),
@@ -435,6 +445,28 @@ LINED = {
     "told by callers": of("f0() { unset v; }\n", each("fN() { f0 | f0; }\n"), "f9\n"),
 }
 
+# Commands that keep the parameters, each in its own way.
+BESIDE = {
+    "call": 'f "$@"',
+    "continue": "b && continue",
+    "declare": "export x=1; readonly y",
+    "defaults": ': "${x=1}" ${1?}',
+    "exec": "exec >f",
+    "expand": 'x=$(b) >"$x"',
+    "for": "for i in a; do b; done",
+    "group": "{ b; } >f",
+    "leave": "b && break",
+    "next": "while b; do continue 2; done",
+    "options": "getopts a x",
+    "pattern": "case x in a) b ;& *) c ;; esac",
+    "pipe": "a | b & ! c",
+    "read": "read -r x",
+    "set": "set -f; times",
+    "trap": "trap - INT",
+    "turn": "until b; do c; done >f",
+    "unset": "unset x",
+}
+
 # By its name, how a script is made, and with which options it is read.
 FAMILIES = {
     "shift behind": (shift_behind, ALL_PARAMETERS),
@@ -445,6 +477,7 @@ FAMILIES = {
     "shift meets": (shift_meets, ALL_PARAMETERS),
     "shift words in": (shift_substitutions, ALL_PARAMETERS),
     "shift nested": (shift_nested, ALL_PARAMETERS),
+    **{f"shift and {name}": (shift_beside(line), ALL_PARAMETERS) for name, line in BESIDE.items()},
     "chain": (chain("in order"), ()),
     "chain back": (chain("reversed"), ()),
     "chain shuffled": (chain("shuffled"), ()),
