@@ -161,7 +161,7 @@ pub ruleset shift_counted = (shift_counted_some, shift_counted_none)
 -- Bounds over a change
 
 module _ (s : Tally) (t : p.Items) (u : ℕ → ℕ) (k : Keeps s t u) where
-  abbrev Unbroken : Constraint → Type 0
+  abbrev pub Unbroken : Constraint → Type 0
   Unbroken c = broken k.known k.claims c ≡ []
 
   -- the view is one of a place, over steps that leave at most what the change makes of its count
@@ -254,20 +254,20 @@ module _ (s : Tally) (t : p.Items) (u : ℕ → ℕ) (k : Keeps s t u) where
 -- What is known after a simple command
 
 module _ (s : Tally) (y : Around) (n : ℕ) (es : p.Elements) (left : Views) where
-  abbrev behind : Seen
+  abbrev pub behind : Seen
   behind = behind_words es (views.at (Before n))
 
-  abbrev kept_gains : Gains
+  abbrev pub kept_gains : Gains
   kept_gains = and_gains (assignments_gains es) (redirections_gains es)
 
-  abbrev settled : Seen
+  abbrev pub settled : Seen
   settled = gaining kept_gains behind
 
   -- what a utility leaves
-  abbrev left_by : Kind → List Word → views.After
+  abbrev pub left_by : Kind → List Word → views.After
   left_by k ws = table.after_utility behind ws kept_gains (prefixes es) (is_redirected (redirects_in es)) k
 
-  settled_sight : IsBehind s n es left → Sight s settled left
+  pub settled_sight : IsBehind s n es left → Sight s settled left
   settled_sight b = b.settled kept_gains (omega arith)
 
   -- after both statuses

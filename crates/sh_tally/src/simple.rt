@@ -195,6 +195,8 @@ impl Tally<'_> {
     {
         match name {
             KnownName::Colon => self.bound(equations, Part::Zero.of(number), left, Change::NONE),
+            KnownName::Continue => self.continued(equations, around, number, texts, elements, left),
+            KnownName::Break => self.broken(equations, around, number, texts, elements, left),
             KnownName::Set => self.set(equations, around, number, texts, elements, left),
             KnownName::Shift => self.shift(equations, around, number, texts, elements, left),
             KnownName::Exec => self.exec(equations, around, number, texts, elements, left),

@@ -97,3 +97,23 @@ returns-in-Trap c =
     (λ unit adds ws behind same. subst (λ n. AddsManner s y c.args.number es c.args.left (table.Utility (kind.Special n) ws) c.args.equations.now c.leaves-in-Trap.new.equations) (sym c.in-Trap.is)
     ((settled_added s y c.args.number es c.args.left ws c.args.equations.now c.leaves-in-Trap.new.equations c.both-in-Trap.result (c.both-in-Trap.ensures (names s)) adds).4))
     c.leaves-in-Trap.ensures
+
+pub returns-in-Continue : goal.returns-in-Continue
+returns-in-Continue c =
+    let s = c.args.self.now in
+    let y = walks.around s.script.now c.args.around.now in
+    let es = elements_from s.script.now c.args.elements.now in
+    IfOk-weaker c.continued.result _ _
+    (λ unit adds ws behind same. subst (λ n. AddsManner s y c.args.number es c.args.left (table.Utility (kind.Special n) ws) c.args.equations.now c.continued.new.equations) (sym c.in-Continue.is)
+    (adds ws same))
+    c.continued.ensures
+
+pub returns-in-Break : goal.returns-in-Break
+returns-in-Break c =
+    let s = c.args.self.now in
+    let y = walks.around s.script.now c.args.around.now in
+    let es = elements_from s.script.now c.args.elements.now in
+    IfOk-weaker c.broken.result _ _
+    (λ unit adds ws behind same. subst (λ n. AddsManner s y c.args.number es c.args.left (table.Utility (kind.Special n) ws) c.args.equations.now c.broken.new.equations) (sym c.in-Break.is)
+    (adds ws same))
+    c.broken.ensures
