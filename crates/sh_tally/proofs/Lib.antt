@@ -1,4 +1,5 @@
 pub mod CountLemmas
+pub mod IterationLemmas
 pub mod KindLemmas
 pub mod SimpleLemmas
 pub mod TallyLemmas

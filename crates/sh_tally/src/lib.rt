@@ -4,6 +4,7 @@
 mod bounds;
 mod commands;
 mod elements;
+mod iterations;
 mod kinds;
 pub mod laws;
 mod lists;
