@@ -108,9 +108,6 @@ module _ (s : Tally) (y : Around) where
   pub compound_added : (n : ℕ) (z : p.Kind) (inside : Views) (old new : Equations) → AddsKind s y n z inside old new → AddsCommand s y n z inside old new
   compound_added n z inside old new h offset rs own texts = h
 
-  pub left_out : (n : ℕ) (z : p.Kind) (inside : Views) (old : Equations) → AddsCommand s y n z inside old old
-  left_out n z inside old offset rs own texts t u q k sight part kept tallied = tallied
-
   -- A function
 
   return_index : (f : Text) (place : Count) → option_map (function_index end.Zero) (number_of (names s) f) ≡ Some place.index → index_of (names s) (views.ReturnsZero f) ≡ Some place.index

@@ -1,5 +1,6 @@
 pub mod CountLemmas
 pub mod JumpLemmas
+pub mod IterationLemmas
 pub mod KindLemmas
 pub mod SimpleLemmas
 pub mod TallyLemmas

@@ -1,7 +1,7 @@
 -- What a walk over a script for its counts does. It adds equations, and each certificate that keeps
 -- the flow rules solves them. It leaves views of what is known after what it went over.
 -- POSIX.1-2024, XCU 2.5.1 (positional parameters), 2.9 (shell commands).
-use Rattle.std.specs.Prelude.{◌≡◌, ℕ, ◌≤◌, max, map, option_map, List, Some, [], ◌++◌, flat_map}
+use Rattle.std.specs.Prelude.{◌≡◌, ℕ, ◌≤◌, max, map, option_map, List, Some, [], ◌∷◌, ◌++◌, flat_map}
 use Rattle.sh_tree.specs.declared.tree.ClauseEnd.{ClauseEnd}
 use Rattle.sh_tree.specs.declared.tree.ClauseEnd.TheVariants as clause
 use Rattle.sh_tree.specs.standard.program.Syntax as p
@@ -10,7 +10,7 @@ use Rattle.sh_tree.specs.standard.program.Words.{assignments_in, operands_in, st
 use Rattle.sh_table.specs.Calls.{texts_with}
 use Rattle.sh_table.specs.standard.runs.Environment.{is_one_of}
 use Rattle.sh_domain.specs.declared.rule.FlowRule.{FlowRule}
-use Rattle.sh_domain.specs.declared.rule.FlowRule.TheVariants.{F6, F9}
+use Rattle.sh_domain.specs.declared.rule.FlowRule.TheVariants.{F6, F8, F9}
 use Rattle.sh_domain.specs.Entries as entries
 use Rattle.sh_domain.specs.Entries.{Entered, kind_entered, script_entered}
 use Rattle.sh_domain.specs.Facts.{Facts, NotReached, Known, facts}
@@ -18,10 +18,10 @@ use Rattle.sh_domain.specs.Faults.{broken}
 use Rattle.sh_domain.specs.Gains.{Gains, words_gains}
 use Rattle.sh_domain.specs.Inclusions.{Each}
 use Rattle.sh_domain.specs.Names.{number_of}
-use Rattle.sh_domain.specs.Rules.{Constraint, branches_bounds, clauses_bounds, functions_of, kind_bounds, leaves, otherwise_bounds, script_bounds, simple_bounds}
+use Rattle.sh_domain.specs.Rules.{Constraint, bound, branches_bounds, clauses_bounds, functions_of, kind_bounds, leaves, otherwise_bounds, script_bounds, simple_bounds}
 use Rattle.sh_domain.specs.Table.{Manner, behind_words, manner, operands, redirections_gains, values_gains}
 use Rattle.sh_domain.specs.Views as views
-use Rattle.sh_domain.specs.Views.{Before, Certificate, Seen, Slot}
+use Rattle.sh_domain.specs.Views.{Before, Certificate, Head, Seen, Slot}
 use Rattle.sh_counts.specs.declared.equations.Change.{Change}
 use Rattle.sh_counts.specs.declared.equations.Change.TheVariants.{Raise}
 use Rattle.sh_counts.specs.declared.equations.Count.{Count}
@@ -213,4 +213,12 @@ module _ (s : Tally) where
   abbrev pub AddsClauses : entries.Around → ℕ → p.Clauses → Views → Equations → Equations → Type 0
   AddsClauses y n cs known old new =
       (t : p.Items) (u : ℕ → ℕ) (q fallen : Seen) (k : Keeps t u) → Sight q known → IsPart t (entries.clauses_entered y q fallen cs) → AreKept t u k (clauses_bounds n q fallen cs)
+      → Tallies s.places u old new
+
+  -- what is added for the turns of the `for` n, whatever its name is
+  abbrev pub AddsTurns : entries.Around → ℕ → p.Items → Views → Equations → Equations → Type 0
+  AddsTurns y n body known old new =
+      (t : p.Items) (u : ℕ → ℕ) (q : Seen) (name : Text) (k : Keeps t u) → Sight q known
+      → IsPart t (entries.items_entered F8 (entries.in_loop n y) (views.Both (views.gaining_names (name ∷ []) (views.at (Head n)))) body)
+      → AreKept t u k (bound (Head n) n F8 q ++ bound (Head n) n F8 (views.in_any_case (entries.items_after (views.Both (views.gaining_names (name ∷ []) (views.at (Head n)))) body)) ++ leaves n F8 (views.Both (views.at (Head n))))
       → Tallies s.places u old new

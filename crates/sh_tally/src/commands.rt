@@ -46,7 +46,6 @@ impl Tally<'_> {
         }
     }
 
-    // The counts in a `for` and after it stay as they are claimed.
     #[cycle(tally)]
     fn kind(
         &self,
@@ -67,7 +66,7 @@ impl Tally<'_> {
             Kind::Subshell(list) => self.subshell(equations, around, number, inside, list),
             Kind::Cond { .. } => self.conditional(equations, around, number, inside, kind),
             Kind::Loop { .. } => self.turns(equations, around, number, inside, kind),
-            Kind::For { .. } => Ok(()),
+            Kind::For { .. } => self.for_turns(equations, around, number, inside, kind),
             Kind::Branches { .. } => self.cases(equations, around, number, inside, kind),
             Kind::Define { name, body } => self.define(
                 equations,

@@ -5,6 +5,7 @@ mod bounds;
 mod commands;
 mod elements;
 mod jumps;
+mod iterations;
 mod kinds;
 pub mod laws;
 mod lists;

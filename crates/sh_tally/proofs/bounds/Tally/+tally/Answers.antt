@@ -5,7 +5,7 @@ use Rattle.sh_tree.specs.declared.tree.AndOr.{out-AndOr}
 use Rattle.sh_tree.specs.declared.tree.Clause.{out-Clause}
 use Rattle.sh_tree.specs.declared.tree.Command.{out-Command}
 use Rattle.sh_tree.specs.declared.tree.Item.{out-Item}
-use Rattle.sh_tree.specs.Lists.{branches_from, clauses_from, commands_from, elements_from, items_from, links_from, otherwise_from, parts_from}
+use Rattle.sh_tree.specs.Lists.{branches_from, clauses_from, commands_from, elements_from, for_words_from, items_from, links_from, otherwise_from, parts_from, words_from}
 use Rattle.sh_tree.specs.standard.Tree.{text_of}
 use Rattle.sh_tree.specs.standard.program.Syntax as p
 use Rattle.sh_tree.specs.standard.program.Trees as trees
@@ -14,14 +14,15 @@ use Rattle.sh_domain.specs.declared.rule.FlowRule.{FlowRule}
 use Rattle.sh_domain.specs.declared.rule.FlowRule.TheVariants.{F6}
 use Rattle.sh_domain.specs.Entries as entries
 use Rattle.sh_domain.specs.Views as views
-use Rattle.sh_domain.specs.Gains.{part_gains, word_gains}
+use Rattle.sh_domain.specs.Gains.{part_gains, word_gains, words_gains}
 use Rattle.sh_domain.specs.Views.{Before, Entry, Head, at}
 use Rattle.sh_counts.specs.declared.equations.Change.TheVariants.{Raise}
 use Rattle.sh_tally.specs.declared.places.End.TheVariants as end
 use Rattle.sh_tally.specs.Views.{index_of}
 use Rattle.sh_rules.specs.Walks as walks
 use Rattle.sh_tally.specs.Walks.{Adds, AddsBranches, AddsClauses, AddsCommand, AddsFrom, AddsFunction, AddsKind, Leaves, LeavesFrom, Passes, PassesValues, PassesWords, Sight, names}
-use Rattle.sh_tally.proofs.KindLemmas.{BranchesLeft, ClausesLeft, branches_added, branches_next, branches_seen, case_kind, clauses_added, clauses_next, command_added, command_bounded, compound_added, conditional_kind, define_added, else_added, empty_of, ended_clause, fallen_clause, kind_as, left_out, no_else_added, otherwise_as}
+use Rattle.sh_tally.proofs.IterationLemmas.{ListedPassed, every_kind, listed_begun, listed_kind, listed_next, listed_passed, turns_added}
+use Rattle.sh_tally.proofs.KindLemmas.{BranchesLeft, ClausesLeft, branches_added, branches_next, branches_seen, case_kind, clauses_added, clauses_next, command_added, command_bounded, compound_added, conditional_kind, define_added, else_added, empty_of, ended_clause, fallen_clause, kind_as, no_else_added, otherwise_as}
 use Rattle.sh_tally.proofs.WordLemmas.{PartsPassed, assignment_values, assignment_words, double_part, expansion_part, file_target, here_target, idle_part, lost_part, operand_values, operand_words, part_as, parts_passed, pieces_next, redirection_values, redirection_words, simple_added, substitution_part, target_as, values_as, values_begun, values_ended, values_next, words_as, words_ended, words_next}
 use Rattle.sh_tally.proofs.WalkLemmas.{ItemsLeft, LinksLeft, PartsLeft, group_kind, loop_kind, one_of, pipe_many_added, pipe_many_left, pipe_one_added, pipe_one_left, subshell_kind, before_index, parts_added, background_added, and_added, and_left, at_index, background_left, foreground_added, foreground_left, items_added, items_left, items_next, links_added, links_left, links_next, list_added, list_leaves, or_added, or_left, parts_next}
 use Rattle.sh_tally.proofs.bounds.Tally.+tally.Goals as goal
@@ -585,7 +586,10 @@ kind-returns-in-Cond t c =
     c.conditional.ensures
 
 pub kind-returns-in-For : goal.kind-returns-in-For
-kind-returns-in-For t c = left_out c.args.self.now (walks.around c.args.self.now.script.now c.args.around.now) c.args.number _ c.args.inside c.args.equations.now
+kind-returns-in-For t c =
+    IfOk-weaker c.for_turns.result _ _
+    (λ unit adds. compound_added c.args.self.now (walks.around c.args.self.now.script.now c.args.around.now) c.args.number _ c.args.inside c.args.equations.now c.for_turns.new.equations adds)
+    c.for_turns.ensures
 
 pub kind-returns-in-Branches : goal.kind-returns-in-Branches
 kind-returns-in-Branches t c =
@@ -642,3 +646,66 @@ pub values-loop-element-init : goal.values-loop-element-init
 values-loop-element-init t c =
     let s = c.args.self.now in
     record { left = values_begun s (elements_from s.script.now c.args.elements.now) c.args.known c.args.equations.now }
+
+pub words-loop-word-init : goal.words-loop-word-init
+words-loop-word-init t c =
+    let s = c.args.self.now in
+    record { left = listed_begun s (words_from s.script.now c.args.words.now) c.args.known c.args.equations.now }
+
+pub words-loop-word-preserved : goal.words-loop-word-preserved
+words-loop-word-preserved t c =
+    let s = c.args.self.now in
+    let b = s.script.now in
+    let all = words_from b c.args.words.now in
+    let here : ListedPassed s all (words_from b (c.word-item.result ∷ drop (c.loop-word.word-index + 1) c.args.words.now)) c.args.known c.loop-word.left c.args.equations.now c.loop-word.equations =
+    subst (λ ws. ListedPassed s all (words_from b ws) c.args.known c.loop-word.left c.args.equations.now c.loop-word.equations) (at_index c.args.words.now c.loop-word.word-index c.word-item.result c.loop-word-test.true c.word-item.is) c.loop-word.invariant.left in
+    record { left = listed_next s b all c.word-item.result _ c.args.known c.loop-word.left c.in_ok-left.left c.args.equations.now c.loop-word.equations c.word.new.equations here c.in_ok-left.ensures }
+
+pub words-returns : goal.words-returns
+words-returns t c =
+    let s = c.args.self.now in
+    let b = s.script.now in
+    let all = words_from b c.args.words.now in
+    listed_passed s b all c.args.known c.loop-word.left c.args.equations.now c.loop-word.equations
+    (subst (λ ws. ListedPassed s all (words_from b ws) c.args.known c.loop-word.left c.args.equations.now c.loop-word.equations) (drop_all c.loop-word.word-index c.args.words.now c.loop-word-test.false) c.loop-word.invariant.left)
+
+pub each_turn-returns : goal.each_turn-returns
+unfolding index_of
+each_turn-returns t c =
+    let s = c.args.self.now in
+    let b = s.script.now in
+    let y = walks.around b c.args.around.now in
+    let own = c.at-head.ensures (names s) (Head c.args.number) (ap Some (sym c.of-turn.ensures)) in
+    turns_added s y (walks.around b c.in_loop-inner.result) c.args.number c.args.behind (trees.script_of b c.args.body.now) c.at-head.result c.in_any_case-again.result c.in_ok-after.after c.both.result c.of-turn.result
+    c.args.equations.now c.list.new.equations c.bound.new.equations c.bound-2.new.equations c.leaves.new.equations (c.in_loop-inner.ensures b) c.of-turn.ensures own
+    c.in_ok-after.ensures.adds c.in_ok-after.ensures.leaves c.in_ok-bound.ensures (c.in_any_case-again.ensures (names s)) c.in_ok-bound-2.ensures (c.both.ensures (names s) (at (Head c.args.number)) own) c.in_ok-leaves.ensures
+
+pub for_turns-returns-in_ok-behind-in-Some : goal.for_turns-returns-in_ok-behind-in-Some
+for_turns-returns-in_ok-behind-in-Some t c =
+    let s = c.args.self.now in
+    let b = s.script.now in
+    let y = walks.around b c.args.around.now in
+    let n = c.in-For.name in
+    let ws = c.in-Some.words in
+    let body = c.in-For.body in
+    let same : trees.kind_of b c.args.of.now ≡ p.For (text_of b n) (p.listed (words_from b ws)) (trees.script_of b body) =
+    ap (trees.kind_of b) c.in-For.is ∙ rules.kind_of-For b n c.in-For.words body ∙ ap (λ o. p.For (text_of b n) (for_words_from b o) (trees.script_of b body)) c.in-Some.is ∙ ap (λ o. p.For (text_of b n) o (trees.script_of b body)) (rules.for_words_from-Some b ws) in
+    let passed = subst (λ xs. Passes s (λ q. entries.words_entered q (words_from b xs)) (words_gains (words_from b xs)) c.args.inside c.in_ok-behind-in-Some.behind c.args.equations.now c.words.new.equations) c.as_slice.ensures c.in_ok-behind-in-Some.ensures in
+    IfOk-weaker c.each_turn.result _ _
+    (λ unit adds. subst (λ z. AddsKind s y c.args.number z c.args.inside c.args.equations.now c.each_turn.new.equations) (sym same)
+    (listed_kind s y c.args.number (text_of b n) (trees.script_of b body) c.args.inside (words_from b ws) c.in_ok-behind-in-Some.behind c.args.equations.now c.words.new.equations c.each_turn.new.equations passed adds))
+    c.each_turn.ensures
+
+pub for_turns-returns-in-None : goal.for_turns-returns-in-None
+for_turns-returns-in-None t c =
+    let s = c.args.self.now in
+    let b = s.script.now in
+    let y = walks.around b c.args.around.now in
+    let n = c.in-For.name in
+    let body = c.in-For.body in
+    let same : trees.kind_of b c.args.of.now ≡ p.For (text_of b n) p.every_parameter (trees.script_of b body) =
+    ap (trees.kind_of b) c.in-For.is ∙ rules.kind_of-For b n c.in-For.words body ∙ ap (λ o. p.For (text_of b n) (for_words_from b o) (trees.script_of b body)) c.in-None.is ∙ ap (λ o. p.For (text_of b n) o (trees.script_of b body)) (rules.for_words_from-None b) in
+    IfOk-weaker c.each_turn-in-None.result _ _
+    (λ unit adds. subst (λ z. AddsKind s y c.args.number z c.args.inside c.args.equations.now c.each_turn-in-None.new.equations) (sym same)
+    (every_kind s y c.args.number (text_of b n) (trees.script_of b body) c.args.inside c.args.equations.now c.each_turn-in-None.new.equations adds))
+    c.each_turn-in-None.ensures

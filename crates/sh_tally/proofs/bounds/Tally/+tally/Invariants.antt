@@ -1,7 +1,8 @@
 use Rattle.std.proofs.Common.{drop}
-use Rattle.sh_tree.specs.Lists.{elements_from, parts_from}
+use Rattle.sh_tree.specs.Lists.{elements_from, parts_from, words_from}
 use Rattle.sh_rules.specs.Walks as walks
 use Rattle.sh_tally.specs.Walks.{PassesValues, PassesWords}
+use Rattle.sh_tally.proofs.IterationLemmas.{ListedPassed}
 use Rattle.sh_tally.proofs.KindLemmas.{BranchesLeft, ClausesLeft}
 use Rattle.sh_tally.proofs.WalkLemmas.{ItemsLeft, LinksLeft, PartsLeft}
 use Rattle.sh_tally.proofs.WordLemmas.{PartsPassed}
@@ -30,3 +31,6 @@ invariant-values-loop-element l = record { left : PassesValues l.self (elements_
 
 abbrev pub invariant-clauses-loop-clause : goal.invariant-clauses-loop-clause
 invariant-clauses-loop-clause l = record { left : ClausesLeft l.self (walks.around l.self.script.now l.around) l.number l.known l.clauses l.initial.equations (drop l.clause-index l.clauses) l.equations }
+
+abbrev pub invariant-words-loop-word : goal.invariant-words-loop-word
+invariant-words-loop-word l = record { left : ListedPassed l.self (words_from l.self.script.now l.words) (words_from l.self.script.now (drop l.word-index l.words)) l.fn.known l.left l.initial.equations l.equations }
