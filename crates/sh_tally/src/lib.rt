@@ -4,8 +4,8 @@
 mod bounds;
 mod commands;
 mod elements;
-mod jumps;
 mod iterations;
+mod jumps;
 mod kinds;
 pub mod laws;
 mod lists;
