@@ -1,6 +1,7 @@
 pub mod CountLemmas
 pub mod IterationLemmas
 pub mod KindLemmas
+pub mod RedirectLemmas
 pub mod SimpleLemmas
 pub mod TallyLemmas
 pub mod ViewLemmas
