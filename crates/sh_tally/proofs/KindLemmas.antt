@@ -1,5 +1,5 @@
 -- What a walk over commands for their counts adds, by what they are.
-use Rattle.std.proofs.Common.{◌≡◌, ℕ, ◌<◌, if◌then◌else◌, length, List, [], ◌∷◌, ◌++◌, Option, Some, option_map, refl, sym, ap, ◌∙◌, subst, arith}
+use Rattle.std.proofs.Common.{◌≡◌, ℕ, if◌then◌else◌, List, [], ◌∷◌, ◌++◌, Option, Some, option_map, refl, sym, ap, ◌∙◌, subst}
 use Rattle.sh_tree.specs.declared.tree.Branch.{Branch, out-Branch}
 use Rattle.sh_tree.specs.declared.tree.Clause.{Clause, out-Clause}
 use Rattle.sh_tree.specs.declared.tree.ClauseEnd.{ClauseEnd}
@@ -7,7 +7,7 @@ use Rattle.sh_tree.specs.declared.tree.ClauseEnd.TheVariants as clause
 use Rattle.sh_tree.specs.declared.tree.Command.{Command, out-Command}
 use Rattle.sh_tree.specs.declared.tree.Kind.{Kind}
 use Rattle.sh_tree.specs.declared.tree.Script.{Script}
-use Rattle.sh_tree.specs.Lists.{branches_from, clauses_from, redirects_from, words_from}
+use Rattle.sh_tree.specs.Lists.{branches_from, clauses_from, words_from}
 use Rattle.sh_tree.specs.standard.program.Syntax as p
 use Rattle.sh_tree.specs.standard.program.Syntax.{Text}
 use Rattle.sh_tree.specs.standard.program.Trees as trees
@@ -16,7 +16,7 @@ use Rattle.sh_domain.specs.declared.rule.FlowRule.{FlowRule}
 use Rattle.sh_domain.specs.declared.rule.FlowRule.TheVariants.{F6, F9, F13}
 use Rattle.sh_domain.specs.Entries as e
 use Rattle.sh_domain.specs.Entries.{Around, Entered, behind_redirects, script_entered}
-use Rattle.sh_domain.specs.Gains.{redirects_gains, word_gains}
+use Rattle.sh_domain.specs.Gains.{word_gains}
 use Rattle.sh_domain.specs.Inclusions.{Each}
 use Rattle.sh_domain.specs.Names.{number_of}
 use Rattle.sh_domain.specs.Rules as r
@@ -35,8 +35,8 @@ use Rattle.sh_tally.specs.declared.views.Views.{Views}
 use Rattle.sh_tally.specs.Tallies.{AreBounds, Tallies}
 use Rattle.sh_tally.specs.Views.{function_index, command_index, index_of}
 use Rattle.sh_tally.specs.Walks.{AddsBranch, AddsBranches, AddsClause, AddsClauses, AddsCommand, AddsFrom, AddsFunction, AddsKind, AddsLeaves, AddsOtherwise, AreKept, HasTexts, IsPart, Keeps, Passes, Sight, SightAfter, names}
-use Rattle.sh_tally.proofs.ViewLemmas.{raised_none, raised_see, see_defined, see_left}
-use Rattle.sh_tally.proofs.WalkLemmas.{Unbroken, before_index, entered_bounds, first_part, last_part, part_kept, place_bounds}
+use Rattle.sh_tally.proofs.ViewLemmas.{raised_see, see_defined, see_left}
+use Rattle.sh_tally.proofs.WalkLemmas.{Unbroken, first_part, last_part, part_kept, place_bounds}
 
 -- A command
 
@@ -46,7 +46,7 @@ each_first P x xs all = all.0
 
 module _ (s : Tally) (y : Around) where
   -- what the rules require of a command by its kind
-  kind_kept : (t : p.Items) (u : ℕ → ℕ) (k : Keeps s t u) (by : FlowRule) (q : Seen) (n offset : ℕ) (kind : p.Kind) (rs : p.Redirects) → IsPart t (e.command_entered by y q (p.command n offset kind rs))
+  pub kind_kept : (t : p.Items) (u : ℕ → ℕ) (k : Keeps s t u) (by : FlowRule) (q : Seen) (n offset : ℕ) (kind : p.Kind) (rs : p.Redirects) → IsPart t (e.command_entered by y q (p.command n offset kind rs))
       → AreKept s t u k (r.kind_bounds (functions_of (script_entered t)) y n (behind_redirects n rs) kind)
   unfolding bounds e.items_entered
   kind_kept t u k by q n offset kind rs part =
@@ -62,7 +62,22 @@ module _ (s : Tally) (y : Around) where
       let third = each_parts (Unbroken k.known k.claims) (before ++ its) redirected last.0 in
       (each_parts (Unbroken k.known k.claims) before its third.0).1
 
-  kind_texts : (t : p.Items) (u : ℕ → ℕ) (k : Keeps s t u) (by : FlowRule) (q : Seen) (n offset : ℕ) (kind : p.Kind) (rs : p.Redirects) → IsPart t (e.command_entered by y q (p.command n offset kind rs))
+  pub redirects_kept : (t : p.Items) (u : ℕ → ℕ) (k : Keeps s t u) (by : FlowRule) (q : Seen) (n offset : ℕ) (kind : p.Kind) (rs : p.Redirects) → IsPart t (e.command_entered by y q (p.command n offset kind rs))
+      → AreKept s t u k (r.redirects_bounds n rs)
+  unfolding bounds e.items_entered
+  redirects_kept t u k by q n offset kind rs part =
+      let fs = functions_of (script_entered t) in
+      let one : Entered = record { command = p.command n offset kind rs; rule = by; around = y; seen = q } in
+      let before : List Constraint = bound (Before n) n by q in
+      let its : List Constraint = r.kind_bounds fs y n (behind_redirects n rs) kind in
+      let redirected : List Constraint = r.redirects_bounds n rs in
+      let counted : List Constraint = r.counted y.drops n (losses fs one) in
+      let own = first_part t (one ∷ []) (e.redirects_entered (views.at (Before n)) rs ++ e.kind_entered y n (behind_redirects n rs) kind) part in
+      let all : Each (Unbroken k.known k.claims) (bounds fs one) = each_first _ one [] (part_kept k.known k.claims t (one ∷ []) k.rules own) in
+      let last = each_parts (Unbroken k.known k.claims) (before ++ its ++ redirected) counted all in
+      (each_parts (Unbroken k.known k.claims) (before ++ its) redirected last.0).1
+
+  pub kind_texts : (t : p.Items) (u : ℕ → ℕ) (k : Keeps s t u) (by : FlowRule) (q : Seen) (n offset : ℕ) (kind : p.Kind) (rs : p.Redirects) → IsPart t (e.command_entered by y q (p.command n offset kind rs))
       → HasTexts s (p.command n offset kind rs)
   unfolding e.items_entered
   kind_texts t u k by q n offset kind rs part =
@@ -71,35 +86,19 @@ module _ (s : Tally) (y : Around) where
       let all : Each (λ (x : Entered). HasTexts s x.command) (part.front ++ ((one ∷ rest) ++ part.back)) = subst (Each (λ (x : Entered). HasTexts s x.command)) part.whole k.texts in
       each_first (λ (x : Entered). HasTexts s x.command) one (rest ++ part.back) (each_parts (λ (x : Entered). HasTexts s x.command) part.front ((one ∷ rest) ++ part.back) all).1
 
-  kind_part : (t : p.Items) (by : FlowRule) (q : Seen) (n offset : ℕ) (kind : p.Kind) (rs : p.Redirects) → IsPart t (e.command_entered by y q (p.command n offset kind rs)) → IsPart t (e.kind_entered y n (behind_redirects n rs) kind)
+  pub kind_part : (t : p.Items) (by : FlowRule) (q : Seen) (n offset : ℕ) (kind : p.Kind) (rs : p.Redirects) → IsPart t (e.command_entered by y q (p.command n offset kind rs)) → IsPart t (e.kind_entered y n (behind_redirects n rs) kind)
   unfolding e.items_entered
   kind_part t by q n offset kind rs part =
       let one : Entered = record { command = p.command n offset kind rs; rule = by; around = y; seen = q } in
       let inside : IsPart t (e.redirects_entered (views.at (Before n)) rs ++ e.kind_entered y n (behind_redirects n rs) kind) = last_part t (one ∷ []) _ part in
       last_part t (e.redirects_entered (views.at (Before n)) rs) (e.kind_entered y n (behind_redirects n rs) kind) inside
 
-  none_redirected : (b : Text) (n : ℕ) (inside : Views) → Sight s (views.at (Before n)) inside → Sight s (behind_redirects n (redirects_from b [])) inside
-  unfolding redirects_from redirects_gains
-  none_redirected b n inside own = raised_see (names s) (views.at (Before n)) (redirects_gains p.no_redirects) inside inside (raised_none inside) own
-
-  module _ (m : Command) (known : Views) (place : Count) (old mid : Equations) (at : place.index ≡ command_index part.Before (out-Command m).number)
-      (asks : (u : ℕ → ℕ) → AreBounds s.places u place (Raise 0) known → Tallies s.places u old mid) where
-    -- nothing is added for what is in it
-    pub command_bounded : (by : FlowRule) → AddsFrom s (λ q. e.command_entered by y q (trees.command_of s.script.now m)) known old mid
-    command_bounded by t u q k sight part = asks u (entered_bounds s y by m known place (before_index s m place at) t u q k sight part)
-
-    pub command_added : (inside : Views) (new : Equations) → (out-Command m).redirects ≡ [] → Sight s (views.at (Before (out-Command m).number)) inside
-        → AddsCommand s y (out-Command m).number (trees.kind_of s.script.now (out-Command m).kind) inside mid new
-        → (by : FlowRule) → AddsFrom s (λ q. e.command_entered by y q (trees.command_of s.script.now m)) known old new
-    command_added inside new none own adds by t u q k sight part tallied =
-        let b : Text = s.script.now in
-        let n : ℕ = (out-Command m).number in
-        let kind : p.Kind = trees.kind_of b (out-Command m).kind in
-        let whole : IsPart t (e.command_entered by y q (p.command n (out-Command m).at kind (redirects_from b []))) =
-        subst (λ rs. IsPart t (e.command_entered by y q (p.command n (out-Command m).at kind (redirects_from b rs)))) none (subst (λ z. IsPart t (e.command_entered by y q z)) (rules.command_of-out b m) part) in
-        adds (out-Command m).at (redirects_from b []) own (kind_texts t u k by q n (out-Command m).at kind (redirects_from b []) whole) t u (behind_redirects n (redirects_from b [])) k
-        (none_redirected b n inside own) (kind_part t by q n (out-Command m).at kind (redirects_from b []) whole) (kind_kept t u k by q n (out-Command m).at kind (redirects_from b []) whole)
-        (command_bounded by t u q k sight part tallied)
+  pub redirects_part : (t : p.Items) (by : FlowRule) (q : Seen) (n offset : ℕ) (kind : p.Kind) (rs : p.Redirects) → IsPart t (e.command_entered by y q (p.command n offset kind rs)) → IsPart t (e.redirects_entered (views.at (Before n)) rs)
+  unfolding e.items_entered
+  redirects_part t by q n offset kind rs part =
+      let one : Entered = record { command = p.command n offset kind rs; rule = by; around = y; seen = q } in
+      let inside : IsPart t (e.redirects_entered (views.at (Before n)) rs ++ e.kind_entered y n (behind_redirects n rs) kind) = last_part t (one ∷ []) _ part in
+      first_part t (e.redirects_entered (views.at (Before n)) rs) (e.kind_entered y n (behind_redirects n rs) kind) inside
 
   -- what a command is
   pub kind_as : (n : ℕ) (x v : Kind) (z : p.Kind) (inside : Views) (old new : Equations) → x ≡ v → trees.kind_of s.script.now v ≡ z → AddsCommand s y n z inside old new → AddsCommand s y n (trees.kind_of s.script.now x) inside old new
@@ -290,7 +289,3 @@ module _ (s : Tally) (y : Around) where
         let own = each_parts (Unbroken k.known k.claims) left (if r.matches_always cs then [] else bound (views.AfterZero n) n F9 (views.gaining (word_gains w) q)) kept in
         adds t u (views.gaining (word_gains w) q) [] k (raised_see (names s) q (word_gains w) inside behind word.gained sight) (last_part t first rest part) own.0
         (word.adds t u q k sight (first_part t first rest part) tallied)
-
-pub empty_of : {X : Type 0} (xs : List X) → length xs < 1 → xs ≡ []
-empty_of [] few = refl
-empty_of (x ∷ xs) few = absurd (omega (arith, few))

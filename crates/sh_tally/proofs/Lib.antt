@@ -2,6 +2,7 @@ pub mod CountLemmas
 pub mod JumpLemmas
 pub mod IterationLemmas
 pub mod KindLemmas
+pub mod RedirectLemmas
 pub mod SimpleLemmas
 pub mod TallyLemmas
 pub mod ViewLemmas

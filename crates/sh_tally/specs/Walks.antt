@@ -18,7 +18,7 @@ use Rattle.sh_domain.specs.Faults.{broken}
 use Rattle.sh_domain.specs.Gains.{Gains, words_gains}
 use Rattle.sh_domain.specs.Inclusions.{Each}
 use Rattle.sh_domain.specs.Names.{number_of}
-use Rattle.sh_domain.specs.Rules.{Constraint, bound, branches_bounds, clauses_bounds, functions_of, kind_bounds, leaves, otherwise_bounds, script_bounds, simple_bounds}
+use Rattle.sh_domain.specs.Rules.{Constraint, bound, branches_bounds, clauses_bounds, functions_of, kind_bounds, leaves, otherwise_bounds, redirects_bounds, script_bounds, simple_bounds}
 use Rattle.sh_domain.specs.Table.{Manner, behind_words, manner, operands, redirections_gains, values_gains}
 use Rattle.sh_domain.specs.Views as views
 use Rattle.sh_domain.specs.Views.{Before, Certificate, Head, Seen, Slot}
@@ -222,3 +222,7 @@ module _ (s : Tally) where
       → IsPart t (entries.items_entered F8 (entries.in_loop n y) (views.Both (views.gaining_names (name ∷ []) (views.at (Head n)))) body)
       → AreKept t u k (bound (Head n) n F8 q ++ bound (Head n) n F8 (views.in_any_case (entries.items_after (views.Both (views.gaining_names (name ∷ []) (views.at (Head n)))) body)) ++ leaves n F8 (views.Both (views.at (Head n))))
       → Tallies s.places u old new
+
+  -- what is added for a redirection of the command n that fails
+  abbrev pub AddsRedirects : ℕ → p.Redirects → Equations → Equations → Type 0
+  AddsRedirects n rs old new = (t : p.Items) (u : ℕ → ℕ) (k : Keeps t u) → AreKept t u k (redirects_bounds n rs) → Tallies s.places u old new

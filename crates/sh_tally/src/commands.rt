@@ -19,8 +19,7 @@ use sh_tree::{Command, Element, Kind, Span};
 use std::alloc::AllocError;
 
 impl Tally<'_> {
-    /// Goes over a command at whose entry this is known. If it has redirections of its own, the
-    /// counts in it and after it stay as they are claimed.
+    /// Goes over a command at whose entry this is known.
     ///
     /// # Errors
     ///
@@ -37,13 +36,10 @@ impl Tally<'_> {
     {
         let place = Part::Before.of(command.number);
         self.bound(equations, place, known, Change::NONE)?;
-        match command.redirects.as_slice() {
-            [] => {
-                let inside = Views::at(place);
-                self.kind(equations, around, command.number, inside, &command.kind)
-            }
-            [_, ..] => Ok(()),
-        }
+        let redirects = command.redirects.as_slice();
+        self.not_redirected(equations, command.number, redirects)?;
+        let inside = self.redirects(equations, Views::at(place), redirects)?;
+        self.kind(equations, around, command.number, inside, &command.kind)
     }
 
     #[cycle(tally)]

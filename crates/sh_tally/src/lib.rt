@@ -10,6 +10,7 @@ mod kinds;
 pub mod laws;
 mod lists;
 mod places;
+mod redirects;
 mod simple;
 mod solved;
 mod views;

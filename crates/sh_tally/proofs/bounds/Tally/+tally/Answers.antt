@@ -1,11 +1,11 @@
-use Rattle.std.proofs.Common.{Some, None, [], arith, length, IfOk, ◌≡◌, ◌∷◌, ◌+◌, drop, refl, sym, ap, ◌∙◌, subst}
+use Rattle.std.proofs.Common.{Some, None, arith, length, IfOk, ◌≡◌, ◌∷◌, ◌+◌, drop, refl, sym, ap, ◌∙◌, subst}
 use Rattle.std.proofs.lemmas.List.{drop_all}
 use Rattle.std.proofs.lemmas.Result.{IfOk-weaker}
 use Rattle.sh_tree.specs.declared.tree.AndOr.{out-AndOr}
 use Rattle.sh_tree.specs.declared.tree.Clause.{out-Clause}
 use Rattle.sh_tree.specs.declared.tree.Command.{out-Command}
 use Rattle.sh_tree.specs.declared.tree.Item.{out-Item}
-use Rattle.sh_tree.specs.Lists.{branches_from, clauses_from, commands_from, elements_from, for_words_from, items_from, links_from, otherwise_from, parts_from, words_from}
+use Rattle.sh_tree.specs.Lists.{branches_from, clauses_from, commands_from, elements_from, for_words_from, items_from, links_from, otherwise_from, parts_from, redirects_from, words_from}
 use Rattle.sh_tree.specs.standard.Tree.{text_of}
 use Rattle.sh_tree.specs.standard.program.Syntax as p
 use Rattle.sh_tree.specs.standard.program.Trees as trees
@@ -14,15 +14,16 @@ use Rattle.sh_domain.specs.declared.rule.FlowRule.{FlowRule}
 use Rattle.sh_domain.specs.declared.rule.FlowRule.TheVariants.{F6}
 use Rattle.sh_domain.specs.Entries as entries
 use Rattle.sh_domain.specs.Views as views
-use Rattle.sh_domain.specs.Gains.{part_gains, word_gains, words_gains}
+use Rattle.sh_domain.specs.Gains.{part_gains, redirects_gains, word_gains, words_gains}
 use Rattle.sh_domain.specs.Views.{Before, Entry, Head, at}
 use Rattle.sh_counts.specs.declared.equations.Change.TheVariants.{Raise}
 use Rattle.sh_tally.specs.declared.places.End.TheVariants as end
 use Rattle.sh_tally.specs.Views.{index_of}
 use Rattle.sh_rules.specs.Walks as walks
-use Rattle.sh_tally.specs.Walks.{Adds, AddsBranches, AddsClauses, AddsCommand, AddsFrom, AddsFunction, AddsKind, Leaves, LeavesFrom, Passes, PassesValues, PassesWords, Sight, names}
+use Rattle.sh_tally.specs.Walks.{Adds, AddsBranches, AddsClauses, AddsCommand, AddsFrom, AddsFunction, AddsKind, AddsRedirects, Leaves, LeavesFrom, Passes, PassesValues, PassesWords, Sight, names}
 use Rattle.sh_tally.proofs.IterationLemmas.{ListedPassed, every_kind, listed_begun, listed_kind, listed_next, listed_passed, turns_added}
-use Rattle.sh_tally.proofs.KindLemmas.{BranchesLeft, ClausesLeft, branches_added, branches_next, branches_seen, case_kind, clauses_added, clauses_next, command_added, command_bounded, compound_added, conditional_kind, define_added, else_added, empty_of, ended_clause, fallen_clause, kind_as, no_else_added, otherwise_as}
+use Rattle.sh_tally.proofs.KindLemmas.{BranchesLeft, ClausesLeft, branches_added, branches_next, branches_seen, case_kind, clauses_added, clauses_next, compound_added, conditional_kind, define_added, else_added, ended_clause, fallen_clause, kind_as, no_else_added, otherwise_as}
+use Rattle.sh_tally.proofs.RedirectLemmas.{RedirectsPassed, command_redirected, redirects_begun, redirects_next, redirects_passed}
 use Rattle.sh_tally.proofs.WordLemmas.{PartsPassed, assignment_values, assignment_words, double_part, expansion_part, file_target, here_target, idle_part, lost_part, operand_values, operand_words, part_as, parts_passed, pieces_next, redirection_values, redirection_words, simple_added, substitution_part, target_as, values_as, values_begun, values_ended, values_next, words_as, words_ended, words_next}
 use Rattle.sh_tally.proofs.WalkLemmas.{ItemsLeft, LinksLeft, PartsLeft, group_kind, loop_kind, one_of, pipe_many_added, pipe_many_left, pipe_one_added, pipe_one_left, subshell_kind, before_index, parts_added, background_added, and_added, and_left, at_index, background_left, foreground_added, foreground_left, items_added, items_left, items_next, links_added, links_left, links_next, list_added, list_leaves, or_added, or_left, parts_next}
 use Rattle.sh_tally.proofs.bounds.Tally.+tally.Goals as goal
@@ -515,23 +516,19 @@ define-returns t c =
     define_added s y (walks.around b c.in_function-outside.result) c.args.number f c.args.body.now c.args.inside c.entered-known.result c.command-after.result c.of.result c.args.equations.now c.command.new.equations c.bound_function.new.equations c.bound_function-2.new.equations c.bound.new.equations
     (c.in_function-outside.ensures b) own c.in_ok-command.ensures (c.command-after.ensures (names s)) first second c.of.ensures c.in_ok-bound.ensures
 
-pub command-returns-in-empty : goal.command-returns-in-empty
-command-returns-in-empty t c =
+pub command-returns : goal.command-returns
+command-returns t c =
     let s = c.args.self.now in
     let b = s.script.now in
     let y = walks.around b c.args.around.now in
     let m = c.args.command.now in
-    let few = c.in-empty.len_below in
-    let none : (out-Command m).redirects ≡ [] = sym c.as_slice.ensures ∙ empty_of c.as_slice.result.now few in
+    let own = c.at.ensures (names s) (Before (out-Command m).number) (before_index s m c.of-place.result c.of-place.ensures) in
+    let fails = subst (λ rs. AddsRedirects s (out-Command m).number (redirects_from b rs) c.bound.new.equations c.not_redirected.new.equations) c.as_slice-redirects.ensures c.in_ok-not_redirected.ensures in
+    let passed = subst (λ rs. Passes s (λ q. entries.redirects_entered q (redirects_from b rs)) (redirects_gains (redirects_from b rs)) c.at.result c.in_ok-inside.inside c.not_redirected.new.equations c.redirects.new.equations) c.as_slice-redirects.ensures c.in_ok-inside.ensures in
     IfOk-weaker c.kind.result _ _
-    (λ unit adds. command_added s y m c.args.known c.of-place.result c.args.equations.now c.bound.new.equations c.of-place.ensures c.in_ok-bound.ensures c.at-inside.result c.kind.new.equations none
-    (c.at-inside.ensures (names s) (Before (out-Command m).number) (before_index s m c.of-place.result c.of-place.ensures)) adds)
+    (λ unit adds. command_redirected s y m c.args.known c.of-place.result c.args.equations.now c.bound.new.equations c.not_redirected.new.equations c.redirects.new.equations c.kind.new.equations c.of-place.ensures c.in_ok-bound.ensures fails
+    c.at.result c.in_ok-inside.inside own passed adds)
     c.kind.ensures
-
-pub command-returns-in-len1-up : goal.command-returns-in-len1-up
-command-returns-in-len1-up t c =
-    let s = c.args.self.now in
-    command_bounded s (walks.around s.script.now c.args.around.now) c.args.command.now c.args.known c.of-place.result c.args.equations.now c.bound.new.equations c.of-place.ensures c.in_ok-bound.ensures
 
 pub kind-returns-in-Group : goal.kind-returns-in-Group
 kind-returns-in-Group t c =
@@ -709,3 +706,25 @@ for_turns-returns-in-None t c =
     (λ unit adds. subst (λ z. AddsKind s y c.args.number z c.args.inside c.args.equations.now c.each_turn-in-None.new.equations) (sym same)
     (every_kind s y c.args.number (text_of b n) (trees.script_of b body) c.args.inside c.args.equations.now c.each_turn-in-None.new.equations adds))
     c.each_turn-in-None.ensures
+
+pub redirects-loop-redirect-init : goal.redirects-loop-redirect-init
+redirects-loop-redirect-init t c =
+    let s = c.args.self.now in
+    record { left = redirects_begun s (redirects_from s.script.now c.args.redirects.now) c.args.known c.args.equations.now }
+
+pub redirects-loop-redirect-preserved : goal.redirects-loop-redirect-preserved
+redirects-loop-redirect-preserved t c =
+    let s = c.args.self.now in
+    let b = s.script.now in
+    let all = redirects_from b c.args.redirects.now in
+    let here : RedirectsPassed s all (redirects_from b (c.redirect-item.result ∷ drop (c.loop-redirect.redirect-index + 1) c.args.redirects.now)) c.args.known c.loop-redirect.left c.args.equations.now c.loop-redirect.equations =
+    subst (λ rs. RedirectsPassed s all (redirects_from b rs) c.args.known c.loop-redirect.left c.args.equations.now c.loop-redirect.equations) (at_index c.args.redirects.now c.loop-redirect.redirect-index c.redirect-item.result c.loop-redirect-test.true c.redirect-item.is) c.loop-redirect.invariant.left in
+    record { left = redirects_next s b all c.redirect-item.result _ c.args.known c.loop-redirect.left c.in_ok-left.left c.args.equations.now c.loop-redirect.equations c.target.new.equations here c.in_ok-left.ensures }
+
+pub redirects-returns : goal.redirects-returns
+redirects-returns t c =
+    let s = c.args.self.now in
+    let b = s.script.now in
+    let all = redirects_from b c.args.redirects.now in
+    redirects_passed s b all c.args.known c.loop-redirect.left c.args.equations.now c.loop-redirect.equations
+    (subst (λ rs. RedirectsPassed s all (redirects_from b rs) c.args.known c.loop-redirect.left c.args.equations.now c.loop-redirect.equations) (drop_all c.loop-redirect.redirect-index c.args.redirects.now c.loop-redirect-test.false) c.loop-redirect.invariant.left)

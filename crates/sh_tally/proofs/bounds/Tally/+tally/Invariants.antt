@@ -1,9 +1,10 @@
 use Rattle.std.proofs.Common.{drop}
-use Rattle.sh_tree.specs.Lists.{elements_from, parts_from, words_from}
+use Rattle.sh_tree.specs.Lists.{elements_from, parts_from, redirects_from, words_from}
 use Rattle.sh_rules.specs.Walks as walks
 use Rattle.sh_tally.specs.Walks.{PassesValues, PassesWords}
 use Rattle.sh_tally.proofs.IterationLemmas.{ListedPassed}
 use Rattle.sh_tally.proofs.KindLemmas.{BranchesLeft, ClausesLeft}
+use Rattle.sh_tally.proofs.RedirectLemmas.{RedirectsPassed}
 use Rattle.sh_tally.proofs.WalkLemmas.{ItemsLeft, LinksLeft, PartsLeft}
 use Rattle.sh_tally.proofs.WordLemmas.{PartsPassed}
 use Rattle.sh_tally.proofs.bounds.Tally.+tally.Given as goal
@@ -34,3 +35,6 @@ invariant-clauses-loop-clause l = record { left : ClausesLeft l.self (walks.arou
 
 abbrev pub invariant-words-loop-word : goal.invariant-words-loop-word
 invariant-words-loop-word l = record { left : ListedPassed l.self (words_from l.self.script.now l.words) (words_from l.self.script.now (drop l.word-index l.words)) l.fn.known l.left l.initial.equations l.equations }
+
+abbrev pub invariant-redirects-loop-redirect : goal.invariant-redirects-loop-redirect
+invariant-redirects-loop-redirect l = record { left : RedirectsPassed l.self (redirects_from l.self.script.now l.redirects) (redirects_from l.self.script.now (drop l.redirect-index l.redirects)) l.fn.known l.left l.initial.equations l.equations }
