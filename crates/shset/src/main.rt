@@ -5,6 +5,7 @@
 ghost use Rattle.std.specs.Prelude.{◌≡◌, ℕ, List, [], IfOk};
 ghost use Rattle.std.specs.Process.{exit_status};
 ghost use Rattle.sh_answers.specs.Ends.{HasRoom};
+ghost use Rattle.sh_accept.specs.Written.{Tells};
 ghost use Rattle.sh_answers.specs.Moves.{Had};
 ghost use Rattle.sh_report.specs.Promises.{EndsSafe};
 ghost use Rattle.sh_report.specs.Runs.{HadText, certificate_read, script_read};
@@ -64,7 +65,9 @@ fn run_over<R: Print + AllocGlobal, S: Read + Drop, C: Read + Drop>(
     script: S,
     certificate: C,
 ) -> Result<u8, Fault>
-    ensures { IfOk result (λ status. (b t : List ℕ) → Had (S.remaining script) script_read b → HadText line.now.task.action (C.remaining certificate) certificate_read t
+    ensures answer { IfOk result (λ status. (b t : List ℕ) → Had (S.remaining script) script_read b → HadText line.now.task.action (C.remaining certificate) certificate_read t
+        → (text : List ℕ) × Tells line.now.task.action b t line.now.task.policy text status) }
+    ensures safe { IfOk result (λ status. (b t : List ℕ) → Had (S.remaining script) script_read b → HadText line.now.task.action (C.remaining certificate) certificate_read t
         → EndsSafe line.now.task b status) }
 {
     let mut script = Counted::new(script);
