@@ -1,1 +1,1 @@
-pub mod FlowLemmas
+pub mod CertificateLemmas

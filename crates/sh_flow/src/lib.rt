@@ -3,9 +3,10 @@
 //! filled, and then checked as any other.
 #![tactic(auto)]
 
-mod flow;
+mod claimed;
 pub mod laws;
 
-pub use flow::{Flow, check_flow};
+pub use claimed::certified;
+pub use sh_checks::{Flow, check_flow};
 pub use sh_domain::FlowRule;
 pub use sh_find::fill;

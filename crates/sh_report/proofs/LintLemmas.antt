@@ -36,10 +36,10 @@ use Rattle.sh_domain.specs.Admitted.{claims_in}
 use Rattle.sh_accept.specs.Answers.{Certifies, IsBest, IsStart, IsTextOf, Lints}
 use Rattle.sh_accept.proofs.DistinctLemmas.{distinct_fold}
 use Rattle.sh_domain.specs.Admitted.{IsGreatest}
-use Rattle.sh_report.specs.Prepared.{IsPrepared, StatesGreatest, sheet_in}
-use Rattle.sh_report.specs.Judged.{Judges}
+use Rattle.sh_judged.specs.Prepared.{IsPrepared, StatesGreatest, sheet_in}
+use Rattle.sh_judged.specs.Judged.{Judges}
 use Rattle.sh_domain.specs.Faults.{Fault, least}
-use Rattle.sh_report.specs.declared.prepared.Prepared.{Prepared}
+use Rattle.sh_judged.specs.declared.prepared.Prepared.{Prepared}
 
 module _ (b : List ℕ) (d : Declared) (p : Prepared) (i : IsPrepared b d p) where
   best : (c : Sheet) → IsGreatest b d p.tree p.names c → IsBest b d p.tree c

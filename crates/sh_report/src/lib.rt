@@ -5,16 +5,14 @@
 mod checks;
 mod engine;
 mod lints;
-mod prepared;
 mod prints;
-mod told;
 
 pub use checks::check;
 pub use engine::run;
 pub use lints::{certificate, lint};
-pub use prepared::{Prepared, certified, prepare};
 pub use prints::canonical_text;
 pub use sh_answers::{
     Action, Broken, Counted, Counts, Fault, Feed, Finding, Outlet, Report, Task, Verdict,
 };
-pub use told::verdict_of;
+pub use sh_flow::certified;
+pub use sh_judged::{Prepared, prepare, verdict_of};

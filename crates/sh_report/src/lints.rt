@@ -4,16 +4,15 @@ ghost use Rattle.sh_answers.specs.declared.verdict.Verdict.TheVariants as verdic
 ghost use Rattle.sh_accept.specs.Answers.{Certifies, Lints};
 ghost use Rattle.sh_domain.specs.Admitted.{IsGreatest};
 ghost use Rattle.sh_accept.specs.Theorem.{IsSafe};
-ghost use Rattle.sh_report.specs.Prepared.{IsPrepared, StatesGreatest, sheet_in};
+ghost use Rattle.sh_judged.specs.Prepared.{IsPrepared, StatesGreatest, sheet_in};
 
-use crate::checks::judged;
-use crate::prepared::{Prepared, prepare};
 use sh_answers::Verdict;
 use sh_domain::{Certificate, Compact, Policy};
 use sh_facts::{
     compact_of, is_compact_too_long, is_too_long, start_of, write_certificate, write_compact,
 };
 use sh_find::find;
+use sh_judged::{Prepared, judged, prepare};
 use sh_tree::Refusal;
 use std::alloc::{AllocError, Global};
 
@@ -134,7 +133,7 @@ fn compact_text(
 /// # Errors
 ///
 /// As `lint`; and `CertSyntax` with 0 if the text would be longer than `MAX_CERTIFICATE`.
-#[tactic(auto, using(crate::proofs::RefusalLemmas::widened))]
+#[tactic(auto, using(sh_judged::proofs::RefusalLemmas::widened))]
 pub fn certificate(
     alloc: Global,
     script: &[u8],

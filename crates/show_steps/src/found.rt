@@ -1,9 +1,9 @@
 //! What is told of the certificates of a script.
-ghost use Rattle.sh_report.specs.Prepared.{IsPrepared};
+ghost use Rattle.sh_judged.specs.Prepared.{IsPrepared};
 
 use crate::texts::{find_by_need, is_by_rounds, is_filled, is_written_again};
 use sh_domain::Policy;
-use sh_report::{Prepared, prepare};
+use sh_judged::{Prepared, prepare};
 use sh_tree::Refusal;
 use std::alloc::{AllocError, Global};
 

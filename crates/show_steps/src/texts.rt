@@ -1,10 +1,11 @@
 //! Certificates and their texts.
-ghost use Rattle.sh_report.specs.Prepared.{IsPrepared};
+ghost use Rattle.sh_judged.specs.Prepared.{IsPrepared};
 
 use sh_domain::{Certificate, Compact, Given, Names, Policy};
-use sh_facts::{read_any, write_certificate, write_compact};
-use sh_find::{find_by_rounds, find_counted};
-use sh_report::{Prepared, certificate, certified};
+use sh_facts::{compact_of, read_any, start_of, write_certificate, write_compact};
+use sh_find::{find, find_by_rounds, find_counted};
+use sh_flow::certified;
+use sh_judged::Prepared;
 use sh_tree::Refusal;
 use std::alloc::{AllocError, Global};
 
@@ -85,6 +86,39 @@ pub fn is_by_rounds(
     is_text_of(alloc, &certificate, &prepared.names, text)
 }
 
+// The text of the compact form of a certificate, and an empty one as above.
+fn form_of(
+    alloc: Global,
+    certificate: &Certificate,
+    names: &Names,
+    policy: &Policy,
+) -> Result<Vec<u8>, AllocError> {
+    if certificate.entries.len() > 65_535 || certificate.rows.count() > 4_096 {
+        return Ok(Vec::new(alloc));
+    }
+    let compact = compact_of(alloc, certificate, &start_of(names, policy))?;
+    compact_text_of(alloc, &compact, names)
+}
+
+fn compact_found(
+    alloc: Global,
+    script: &[u8],
+    policy: &Policy,
+    prepared: &Prepared,
+) -> Result<Vec<u8>, AllocError>
+    requires { IsPrepared script.now policy.now prepared.now }
+{
+    let certificate = find(
+        alloc,
+        &prepared.tree,
+        script,
+        &prepared.table,
+        &prepared.names,
+        policy,
+    )?;
+    form_of(alloc, &certificate, &prepared.names, policy)
+}
+
 /// Whether the certificate to which the compact one of the script is filled has this text.
 pub fn is_filled(
     alloc: Global,
@@ -95,7 +129,7 @@ pub fn is_filled(
 ) -> Result<bool, Refusal>
     requires { IsPrepared script.now policy.now prepared.now }
 {
-    let compact = certificate(alloc, script, policy, false)?;
+    let compact = compact_found(alloc, script, policy, prepared)?;
     let filled = certified(alloc, script, policy, prepared, &compact)?;
     let is_same = is_text_of(alloc, &filled, &prepared.names, text)?;
     Ok(is_same)

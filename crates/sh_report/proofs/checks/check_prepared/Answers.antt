@@ -1,5 +1,5 @@
 use Rattle.std.proofs.lemmas.Result.{err_from_is_err_and}
-use Rattle.sh_report.proofs.CheckLemmas.{certifies}
+use Rattle.sh_judged.proofs.CheckLemmas.{certifies}
 use Rattle.sh_report.proofs.checks.check_prepared.Goals as goal
 
 pub returns-in_err-certificate : goal.returns-in_err-certificate

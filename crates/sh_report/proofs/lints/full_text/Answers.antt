@@ -1,7 +1,7 @@
 use Rattle.std.proofs.Common.{◌<◌, ◌≤◌, true, length, refl, sym, subst, arith}
 use Rattle.sh_domain.specs.Sheets.{certificate_text}
 use Rattle.sh_domain.specs.declared.limits.TheConstants.{MAX_CERTIFICATE}
-use Rattle.sh_report.specs.Prepared.{sheet_in}
+use Rattle.sh_judged.specs.Prepared.{sheet_in}
 use Rattle.sh_report.proofs.LintLemmas.{few_commands, few_functions, full_spelled, shown, too_long}
 use Rattle.sh_report.proofs.lints.full_text.Goals as goal
 

@@ -1,0 +1,3 @@
+pub mod RefusalLemmas
+pub mod FindingLemmas
+pub mod CheckLemmas

@@ -1,5 +1,0 @@
-use Rattle.sh_report.proofs.CheckLemmas.{numbered_prepared}
-use Rattle.sh_report.proofs.checks.verdict_with.Goals as goal
-
-pub check_quotes-requires-clause-numbered : goal.check_quotes-requires-clause-numbered
-check_quotes-requires-clause-numbered c = numbered_prepared c.args.script.now c.requires.0 c.args.prepared.now c.requires.1
