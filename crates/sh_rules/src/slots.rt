@@ -4,6 +4,8 @@ ghost use Rattle.std.specs.List.{list_all};
 ghost use Rattle.std.specs.Option.{option_copied};
 ghost use Rattle.std.specs.Str.{bytes_eq};
 ghost use Rattle.sh_tree.specs.standard.Tree.{text_of};
+ghost use Rattle.sh_table.specs.Calls.{texts_with};
+ghost use Rattle.sh_table.specs.WordTexts.{text_in};
 ghost use Rattle.sh_domain.specs.Names.{number_of};
 ghost use Rattle.sh_domain.specs.Slots as slots;
 ghost use Rattle.sh_domain.specs.Views as views;
@@ -21,10 +23,12 @@ ghost use Rattle.sh_domain.specs.Knowledge.{AreNumbered};
 ghost use Rattle.sh_tree.specs.standard.program.Syntax.{Text};
 ghost use Rattle.sh_rules.specs.Asking.{one_function, one_variable};
 ghost use Rattle.sh_rules.specs.Calls.{Returns};
+ghost use Rattle.sh_rules.specs.Visits as visits;
 
 use crate::claims::Claims;
 use crate::place::Place;
 use sh_domain::{Entry, Facts, FunctionEntry, Knowledge, Return, RowId, Rows};
+use sh_table::WordText;
 use sh_tree::Span;
 
 impl Claims<'_> {
@@ -64,6 +68,24 @@ impl Claims<'_> {
     {
         let place = self.calls.function_place(name)?;
         self.certificate.functions.get(place)
+    }
+}
+
+impl Claims<'_> {
+    /// The static texts of the words of a command, the command name's first.
+    #[tactic(auto, using(crate::proofs::VisitLemmas::texts_read))]
+    pub fn texts(&self, number: u32) -> &[WordText]
+        ensures { map (text_in (setting self.now).script) result.now ≡ texts_with number (setting self.now).rows }
+    {
+        self.calls.texts(number)
+    }
+
+    /// Whether a command calls a function.
+    #[tactic(auto, using(crate::proofs::VisitLemmas::call_read))]
+    pub fn is_call(&self, number: u32) -> bool
+        ensures { result ≡ visits.calls_at (setting self.now) number }
+    {
+        self.calls.callee(number).is_some()
     }
 }
 

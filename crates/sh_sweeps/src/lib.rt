@@ -1,25 +1,22 @@
-//! Sweeps over a script: each lowers a certificate to what the flow rules ask of it.
+//! What sweeps over a script stand on: what is known where a command is entered, and what the flow
+//! rules ask, as it is gathered and lowered.
 #![tactic(auto)]
 
 mod asked;
 mod before;
-mod bodies;
-mod choices;
 mod claims;
 mod gather;
-mod known;
+pub mod known;
 pub mod laws;
 mod lower;
-mod own;
-mod rounds;
 mod sides;
 mod slots;
 mod stated;
-mod sweep;
-mod words;
 
-pub use bodies::{sweep_by_rounds, sweep_round, sweep_waiting};
+pub use before::lower_before;
 pub use claims::claims_of;
 pub use gather::Gather;
 pub use lower::lower_gathered;
+pub use sides::Sides;
+pub use slots::spot_of;
 pub use stated::Unstated;

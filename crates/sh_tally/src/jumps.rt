@@ -17,9 +17,10 @@ use crate::bounds::Tally;
 use crate::places::Part;
 use crate::views::Views;
 use sh_counts::{Change, Equations};
-use sh_rules::{Around, first_number, jump_loop};
+use sh_rules::Around;
 use sh_table::WordText;
 use sh_tree::Element;
+use sh_visits::{first_number, jump_loop};
 use std::alloc::AllocError;
 
 // The loop that a jump goes to, if its operand is known. The greatest number means each greater

@@ -13,8 +13,9 @@ ghost use Rattle.sh_rules.specs.Visits as spec;
 
 use crate::walk::{Visitor, walk};
 use sh_domain::{FlowRule, Knowledge, Policy};
-use sh_rules::{Around, Asked, Claims, Fault, Least, tell_command};
+use sh_rules::{Around, Asked, Claims, Fault, Least};
 use sh_tree::{Command, Script};
+use sh_visits::tell_command;
 
 /// A visitor that does at each command what the rules require of it.
 pub struct Rules<A> {

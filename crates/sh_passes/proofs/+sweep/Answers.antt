@@ -1,0 +1,802 @@
+mod Bodies
+mod Choices
+mod Words
+use Rattle.std.proofs.Common.{rules as std_rules, arith, ap, length, true, ◌≡◌, ◌<◌, ◌≤◌, ◌+◌, ◌∷◌, ◌++◌, ◌∙◌, [], ℕ, List, drop, refl, sym, subst}
+use Rattle.std.proofs.lemmas.List.{drop_all}
+use Rattle.sh_tree.specs.standard.Tree.{text_of}
+use Rattle.sh_tree.specs.declared.tree.AndOr.{out-AndOr}
+use Rattle.sh_tree.specs.declared.tree.Branch.{Branch, out-Branch}
+use Rattle.sh_tree.specs.declared.tree.Clause.{Clause, out-Clause}
+use Rattle.sh_tree.specs.declared.tree.Command.{out-Command}
+use Rattle.sh_tree.specs.declared.tree.Element.{Element}
+use Rattle.sh_tree.specs.declared.tree.Item.{Item, out-Item}
+use Rattle.sh_tree.specs.declared.tree.Link.{Link}
+use Rattle.sh_tree.specs.declared.tree.Pipe.{Pipe, out-Pipe}
+use Rattle.sh_tree.specs.Lists.{branches_from, clauses_from, elements_from, for_words_from, operands_from, otherwise_from, parts_from, redirects_from, words_from}
+use Rattle.sh_tree.specs.standard.program.Syntax as p
+use Rattle.sh_tree.specs.standard.program.Trees as trees
+use Rattle.sh_tree.specs.standard.program.Trees.{expression_of, operator_of, parameter_of, part_of, script_of, target_of}
+use Rattle.sh_tree.proofs.ProgramRules as program
+use Rattle.sh_domain.specs.declared.rule.FlowRule.TheVariants.{F2, F3, F6, F7, F8, F9, F10, F11, F12, F13}
+use Rattle.sh_domain.specs.Entries as entries
+use Rattle.sh_domain.specs.Entries.{Around}
+use Rattle.sh_domain.specs.Facts.{Facts, NotReached, meet}
+use Rattle.sh_domain.specs.Gains.{and_gains, assigned_in, expanded_gains, named, operands_gains, operator_gains, part_gains, redirect_gains, word_gains}
+use Rattle.sh_domain.specs.Knowledge.{knowledge_facts}
+use Rattle.sh_domain.specs.Table.{behind_words}
+use Rattle.sh_domain.specs.Views.{Before, Both, Head, Seen, at, gaining, without_job}
+use Rattle.sh_rules.specs.Behind.{both, in_any_case}
+use Rattle.sh_rules.specs.Walks as walks
+use Rattle.sh_rules.specs.Walks.{facts_in}
+use Rattle.sh_rules.proofs.LedLemmas.{turns_led}
+use Rattle.sh_sweeps.specs.Sweeps.{AreBranches, AreClauses, AreElements, AreItems, AreLinks, AreParts, Gained, IsAndOr, IsCommand, IsIn, IsInside, IsKind, IsList, IsPart, IsPipe, IsWord, Knows, known_behind, setting_by}
+use Rattle.sh_drafts.specs.Ready.{IsReady}
+use Rattle.sh_sweeps.proofs.PlacedLemmas.{at_index, background_placed, begun_at, body_placed, branch_body, branch_condition, branches_next, branches_placed, case_placed, clause_list, clauses_next, clauses_placed, command_placed, condition_placed, definition_placed, else_placed, for_placed, foreground_placed, goes_last, goes_next, GoesOn, group_placed, inside_placed, items_next, known_after, link_placed, links_next, links_placed, long_placed, next_goes, next_item, parts_next, pipe_placed, short_placed, subshell_placed}
+use Rattle.sh_sweeps.proofs.SweepLemmas.{knows_follow, stands_of}
+use Rattle.sh_drafts.proofs.ReadyLemmas.{names_numbered, ready_again, swept_more, swept_none}
+use Rattle.sh_sweeps.proofs.WordLemmas.{Along, along_first, along_no_operands, along_no_parts, along_operands, along_parts, arithmetic_gained, arithmetic_placed, assigned_gained, assigned_placed, both_gained, case_word, chain_first, chain_gained, chain_rest, choice_condition, choice_gained, choice_no, choice_yes, clause_patterns, double_gained, double_placed, element_as, elements_first, elements_placed, expanded_gained, expanded_placed, expansion_gained, expansion_placed, expression_as, expression_gained, file_gained, file_placed, for_words_placed, gained_nowhere, here_gained, here_placed, if_ok, kind_as, kind_placed, link_expression, listed_placed, literal_gained, nothing_gained, operand_inside, operand_next, operand_placed, operands_next, parenthesis_gained, parenthesis_placed, part_as, part_gained, part_placed, pattern_placed, patterns_next, pieces_next, plain_gained, redirect_placed, redirection_next, redirection_placed, redirections_placed, redirects_next, remove_placed, signed_gained, signed_placed, substitution_placed, use_gained, use_placed, value_next, value_placed, word_placed, words_next}
+use Rattle.sh_passes.proofs.+sweep.Goals as goal
+use Rattle.sh_passes.proofs.+sweep.Answers.Bodies as bodies
+use Rattle.sh_passes.proofs.+sweep.Answers.Choices as choices
+use Rattle.sh_passes.proofs.+sweep.Answers.Words as words
+
+pub sweep::enter_item-enter_process-requires : goal.sweep::enter_item-enter_process-requires
+unfolding facts_in
+sweep::enter_item-enter_process-requires t c =
+    let s = c.args.subject.now in
+    let r = c.requires.ready in
+    let at = c.args.course.now in
+    let i = c.args.item.now in
+    let y = walks.around s.script.now c.args.around.now in
+    let any : knowledge_facts s.names.now c.in_any_case-seen.result ≡ in_any_case (known_behind s at.behind) = c.in_any_case-seen.ensures (setting_by s c.args.draft.now.certificate) in
+    let placed : (k : Facts) → ((q : Seen) → Knows s q (knowledge_facts s.names.now c.in_any_case-seen.result) → Knows s (without_job q) k) → IsAndOr s F11 entries.alone k (out-Item i).list =
+    λ k known. background_placed s y at i c.requires.placed.0 k c.if-item.true (λ q w. known q (subst (Knows s q) (sym any) w)) _ (names_numbered s _ _ r) r.over c.requires.placed.1 in
+    search std_rules
+
+pub sweep::enter_item-sweep_and_or-requires : goal.sweep::enter_item-sweep_and_or-requires
+unfolding facts_in
+sweep::enter_item-sweep_and_or-requires t c =
+    let s = c.args.subject.now in
+    let r = c.requires.ready in
+    let at = c.args.course.now in
+    let i = c.args.item.now in
+    let y = walks.around s.script.now c.args.around.now in
+    let k = knowledge_facts s.names.now c.in_any_case-seen.result in
+    let any : k ≡ in_any_case (known_behind s at.behind) = c.in_any_case-seen.ensures (setting_by s c.args.draft.now.certificate) in
+    let placed : IsAndOr s at.by y k (out-Item i).list = foreground_placed s y at i c.requires.placed.0 k c.if-item.false any _ (names_numbered s _ _ r) r.over c.requires.placed.1 in
+    search std_rules
+
+pub sweep::enter_process-sweep_and_or-requires : goal.sweep::enter_process-sweep_and_or-requires
+unfolding entries.item_seen
+sweep::enter_process-sweep_and_or-requires t c =
+    let s = c.args.subject.now in
+    let k = knowledge_facts s.names.now c.started_in-inside.result in
+    let placed : IsAndOr s F11 (walks.around s.script.now c.alone-outside.result) k c.args.list.now =
+    subst (λ z. IsAndOr s F11 z k c.args.list.now) (sym (c.alone-outside.ensures s.script.now)) (c.requires.placed k c.started_in-inside.ensures) in
+    search std_rules
+
+pub sweep::sweep_and_or-sweep_pipe-requires : goal.sweep::sweep_and_or-sweep_pipe-requires
+sweep::sweep_and_or-sweep_pipe-requires t c =
+    let s = c.args.subject.now in
+    let y = walks.around s.script.now c.args.around.now in
+    let placed : IsPipe s c.args.by y (knowledge_facts s.names.now c.args.known.now) (out-AndOr c.args.list.now).first = pipe_placed s c.args.by y (knowledge_facts s.names.now c.args.known.now) c.args.list.now c.requires.placed in
+    search std_rules
+
+pub sweep::sweep_and_or-sweep_links-requires : goal.sweep::sweep_and_or-sweep_links-requires
+sweep::sweep_and_or-sweep_links-requires t c =
+    let s = c.args.subject.now in
+    let r = c.requires.ready in
+    let y = walks.around s.script.now c.args.around.now in
+    let ready : IsReady s c.sweep_pipe.new.draft.certificate c.sweep_pipe.new.draft.probe.count = ready_again s _ _ _ _ r c.in_ok-sweep_pipe.ensures.swept in
+    let placed : AreLinks s y (known_behind s c.behind_pipe-behind.result) c.as_slice-links.result.now =
+    subst (AreLinks s y (known_behind s c.behind_pipe-behind.result)) (sym c.as_slice-links.ensures)
+    (links_placed s c.args.by y (knowledge_facts s.names.now c.args.known.now) c.args.list.now (known_behind s c.behind_pipe-behind.result) c.behind_pipe-behind.ensures c.requires.placed) in
+    search std_rules
+
+pub choices::sweep_branch-sweep_items-requires : goal.choices::sweep_branch-sweep_items-requires
+choices::sweep_branch-sweep_items-requires = choices.sweep_branch-sweep_items-requires
+
+pub choices::sweep_branch-sweep_list-requires : goal.choices::sweep_branch-sweep_list-requires
+choices::sweep_branch-sweep_list-requires = choices.sweep_branch-sweep_list-requires
+
+pub choices::sweep_branch-returns-clause-swept : goal.choices::sweep_branch-returns-clause-swept
+choices::sweep_branch-returns-clause-swept = choices.sweep_branch-returns-clause-swept
+
+pub choices::sweep_branch-returns-clause-passed : goal.choices::sweep_branch-returns-clause-passed
+choices::sweep_branch-returns-clause-passed = choices.sweep_branch-returns-clause-passed
+
+pub choices::sweep_branches-sweep_branch-requires : goal.choices::sweep_branches-sweep_branch-requires
+choices::sweep_branches-sweep_branch-requires = choices.sweep_branches-sweep_branch-requires
+
+pub choices::sweep_branches-loop-branch-preserved : goal.choices::sweep_branches-loop-branch-preserved
+choices::sweep_branches-loop-branch-preserved = choices.sweep_branches-loop-branch-preserved
+
+pub choices::sweep_clauses-loop-clause-init : goal.choices::sweep_clauses-loop-clause-init
+choices::sweep_clauses-loop-clause-init = choices.sweep_clauses-loop-clause-init
+
+pub choices::sweep_clauses-sweep_clause-requires : goal.choices::sweep_clauses-sweep_clause-requires
+choices::sweep_clauses-sweep_clause-requires = choices.sweep_clauses-sweep_clause-requires
+
+pub choices::sweep_clauses-loop-clause-preserved : goal.choices::sweep_clauses-loop-clause-preserved
+choices::sweep_clauses-loop-clause-preserved = choices.sweep_clauses-loop-clause-preserved
+
+pub choices::sweep_body-sweep_items-requires : goal.choices::sweep_body-sweep_items-requires
+choices::sweep_body-sweep_items-requires = choices.sweep_body-sweep_items-requires
+
+pub choices::sweep_body-returns-clause-passed : goal.choices::sweep_body-returns-clause-passed
+choices::sweep_body-returns-clause-passed = choices.sweep_body-returns-clause-passed
+
+pub choices::sweep_cond-sweep_list-requires : goal.choices::sweep_cond-sweep_list-requires
+choices::sweep_cond-sweep_list-requires = choices.sweep_cond-sweep_list-requires
+
+pub sweep::sweep_definition-sweep_command-requires : goal.sweep::sweep_definition-sweep_command-requires
+sweep::sweep_definition-sweep_command-requires t c =
+    let s = c.args.subject.now in
+    let r = c.requires.ready in
+    let w = c.requires.placed in
+    let k = knowledge_facts s.names.now c.entry_of-known.result in
+    let placed : IsCommand s F13 (walks.around s.script.now c.in_function-inner.result) k c.args.body.now =
+    subst (λ z. IsCommand s F13 z k c.args.body.now) (sym (c.in_function-inner.ensures s.script.now)) (definition_placed s w.0 w.1 w.2 k (text_of s.script.now c.args.name) c.args.body.now w.3 c.entry_of-known.ensures) in
+    search std_rules
+
+pub sweep::sweep_for-sweep_list-requires : goal.sweep::sweep_for-sweep_list-requires
+sweep::sweep_for-sweep_list-requires t c =
+    let s = c.args.subject.now in
+    let r = c.requires.ready in
+    let y = walks.around s.script.now c.args.around.now in
+    let w = c.requires.placed in
+    let k = knowledge_facts s.names.now c.turn_of-turn.result in
+    let placed : IsList s F8 (walks.around s.script.now c.in_loop-inner.result) k (script_of s.script.now c.args.body.now) =
+    subst (λ z. IsList s F8 z k (script_of s.script.now c.args.body.now)) (sym (c.in_loop-inner.ensures s.script.now))
+    (for_placed s y c.args.number w.0 k (text_of s.script.now c.args.name) w.1 (script_of s.script.now c.args.body.now) w.2 c.turn_of-turn.ensures) in
+    search std_rules
+
+pub sweep::sweep_link-sweep_pipe-requires : goal.sweep::sweep_link-sweep_pipe-requires
+unfolding facts_in
+sweep::sweep_link-sweep_pipe-requires t c =
+    let s = c.args.subject.now in
+    let r = c.requires.ready in
+    let y = walks.around s.script.now c.args.around.now in
+    let b = known_behind s c.args.behind.now in
+    let k = knowledge_facts s.names.now c.at_link.result.now in
+    let placed : IsPipe s F3 y k c.args.link.now.1 = link_placed s y b k c.args.link.now c.requires.placed.0 (c.at_link.ensures (setting_by s c.args.draft.now.certificate)) _ (names_numbered s _ _ r) r.over c.requires.placed.1 in
+    search std_rules
+
+pub sweep::sweep_link-returns-clause-passed : goal.sweep::sweep_link-returns-clause-passed
+sweep::sweep_link-returns-clause-passed t c =
+    λ others here.
+    let s = c.args.subject.now in
+    let y = walks.around s.script.now c.args.around.now in
+    links_next s y (known_behind s c.args.behind.now) _ c.args.link.now others c.pass_link.ensures here
+
+pub sweep::sweep_list-sweep_items-requires : goal.sweep::sweep_list-sweep_items-requires
+unfolding facts_in
+sweep::sweep_list-sweep_items-requires t c =
+    let s = c.args.subject.now in
+    let r = c.requires.ready in
+    let y = walks.around s.script.now c.args.around.now in
+    let k = knowledge_facts s.names.now c.args.known.now in
+    let begun : known_behind s c.begun-course.result.behind ≡ both k = c.begun-course.ensures.behind (setting_by s c.args.draft.now.certificate) in
+    let placed : AreItems s c.begun-course.result.by y (known_behind s c.begun-course.result.behind) c.as_slice.result.now =
+    begun_at s y k c.begun-course.result c.args.by c.args.list.now c.as_slice.result.now c.begun-course.ensures.by begun c.as_slice.ensures c.requires.placed in
+    search std_rules
+
+pub sweep::sweep_loop-sweep_items-requires : goal.sweep::sweep_loop-sweep_items-requires
+unfolding facts_in
+sweep::sweep_loop-sweep_items-requires t c =
+    let s = c.args.subject.now in
+    let r = c.requires.ready in
+    let y = walks.around s.script.now c.args.around.now in
+    let k = knowledge_facts s.names.now c.head_of-head.result in
+    let begun : known_behind s c.begun-course.result.behind ≡ both k = c.begun-course.ensures.behind (setting_by s c.args.draft.now.certificate) in
+    let w = c.requires.placed in
+    let inner : walks.around s.script.now c.in_loop-inner.result ≡ entries.in_loop c.args.number y = c.in_loop-inner.ensures s.script.now in
+    let placed : AreItems s c.begun-course.result.by (walks.around s.script.now c.in_loop-inner.result) (known_behind s c.begun-course.result.behind) c.as_slice.result.now =
+    subst (λ z. AreItems s c.begun-course.result.by z (known_behind s c.begun-course.result.behind) c.as_slice.result.now) (sym inner)
+    (begun_at s (entries.in_loop c.args.number y) k c.begun-course.result F7 c.args.condition.now c.as_slice.result.now c.begun-course.ensures.by begun c.as_slice.ensures
+    (condition_placed s y c.args.number w.0 k c.args.kind (script_of s.script.now c.args.condition.now) (script_of s.script.now c.args.body.now) w.1 c.head_of-head.ensures)) in
+    search std_rules
+
+pub sweep::sweep_loop-sweep_list-requires : goal.sweep::sweep_loop-sweep_list-requires
+unfolding facts_in
+sweep::sweep_loop-sweep_list-requires t c =
+    let s = c.args.subject.now in
+    let r = c.requires.ready in
+    let y = walks.around s.script.now c.args.around.now in
+    let k = knowledge_facts s.names.now c.head_of-head.result in
+    let begun : known_behind s c.begun-course.result.behind ≡ both k = c.begun-course.ensures.behind (setting_by s c.args.draft.now.certificate) in
+    let w = c.requires.placed in
+    let inner : walks.around s.script.now c.in_loop-inner.result ≡ entries.in_loop c.args.number y = c.in_loop-inner.ensures s.script.now in
+    let ready : IsReady s c.sweep_items.new.draft.certificate c.sweep_items.new.draft.probe.count = ready_again s _ _ _ _ r c.in_ok-sweep_items.ensures.swept in
+    let after = known_after s k c.begun-course.result c.sweep_items.new.course c.args.condition.now c.as_slice.result.now begun c.as_slice.ensures c.in_ok-sweep_items.ensures.behind in
+    let o = entries.items_after (Both (at (Head c.args.number))) (script_of s.script.now c.args.condition.now) in
+    let turn = knowledge_facts s.names.now c.at_turn.result.now in
+    let known : Knows s (entries.turns c.args.kind o) turn =
+    subst (Knows s (entries.turns c.args.kind o)) (sym (c.at_turn.ensures (setting_by s c.args.draft.now.certificate)))
+    (turns_led (setting_by s c.args.draft.now.certificate) (Knows s) (knows_follow s _ (names_numbered s _ _ r) r.over) c.args.kind o (known_behind s c.sweep_items.new.course.behind) (stands_of s o _ (after (at (Head c.args.number)) c.head_of-head.ensures))) in
+    let placed : IsList s F7 (walks.around s.script.now c.in_loop-inner.result) turn (script_of s.script.now c.args.body.now) =
+    subst (λ z. IsList s F7 z turn (script_of s.script.now c.args.body.now)) (sym inner)
+    (body_placed s y c.args.number w.0 turn c.args.kind (script_of s.script.now c.args.condition.now) (script_of s.script.now c.args.body.now) w.1 known) in
+    search std_rules
+
+pub sweep::sweep_and_or-returns : goal.sweep::sweep_and_or-returns
+sweep::sweep_and_or-returns t c = record { swept = if_ok c.sweep_links.result _ _ (λ u h. swept_more c.args.subject.now _ _ _ _ _ c.in_ok-sweep_pipe.ensures.swept h) c.sweep_links.ensures.swept }
+
+pub sweep::sweep_inside-returns : goal.sweep::sweep_inside-returns
+sweep::sweep_inside-returns t c = record { swept = if_ok c.sweep_kind.result _ _ (λ u h. swept_more c.args.subject.now _ _ _ _ _ c.in_ok-sweep_redirections.ensures.swept h) c.sweep_kind.ensures.swept }
+
+pub sweep::sweep_looked-returns-then-is_simple-2 : goal.sweep::sweep_looked-returns-then-is_simple-2
+sweep::sweep_looked-returns-then-is_simple-2 t c = record { swept = if_ok c.sweep_simple.result _ _ (λ u h. swept_more c.args.subject.now _ _ _ _ _ c.in_ok-lower_before.ensures.swept h) c.sweep_simple.ensures.swept }
+
+pub sweep::sweep_looked-returns-else-is_simple-2 : goal.sweep::sweep_looked-returns-else-is_simple-2
+sweep::sweep_looked-returns-else-is_simple-2 t c = record { swept = if_ok c.sweep_compound.result _ _ (λ u h. swept_more c.args.subject.now _ _ _ _ _ c.in_ok-lower_before.ensures.swept h) c.sweep_compound.ensures.swept }
+
+pub sweep::sweep_loop-returns : goal.sweep::sweep_loop-returns
+sweep::sweep_loop-returns t c = record { swept = swept_more c.args.subject.now _ _ _ _ _ c.in_ok-sweep_items.ensures.swept c.in_ok-sweep_list.ensures.swept }
+
+pub sweep::sweep_parts-sweep_command-requires : goal.sweep::sweep_parts-sweep_command-requires
+sweep::sweep_parts-sweep_command-requires t c =
+    let s = c.args.subject.now in
+    let r = c.requires.ready in
+    let y = walks.around s.script.now c.args.around.now in
+    let ready : IsReady s c.loop-command.draft.certificate c.loop-command.draft.probe.count = ready_again s _ _ _ _ r c.loop-command.invariant.swept in
+    let here : AreParts s c.args.by y (knowledge_facts s.names.now c.args.known.now) (c.command-item.result ∷ drop (c.loop-command.command-index + 1) c.args.parts.now) = subst (AreParts s c.args.by y (knowledge_facts s.names.now c.args.known.now)) (at_index c.args.parts.now c.loop-command.command-index c.command-item.result c.loop-command-test.true c.command-item.is) c.loop-command.invariant.placed in
+    let placed : IsCommand s c.args.by y (knowledge_facts s.names.now c.args.known.now) c.command-item.result = command_placed s c.args.by y (knowledge_facts s.names.now c.args.known.now) c.command-item.result _ here in
+    search std_rules
+
+pub sweep::sweep_parts-loop-command-preserved : goal.sweep::sweep_parts-loop-command-preserved
+sweep::sweep_parts-loop-command-preserved t c =
+    let s = c.args.subject.now in
+    let y = walks.around s.script.now c.args.around.now in
+    let here : AreParts s c.args.by y (knowledge_facts s.names.now c.args.known.now) (c.command-item.result ∷ drop (c.loop-command.command-index + 1) c.args.parts.now) = subst (AreParts s c.args.by y (knowledge_facts s.names.now c.args.known.now)) (at_index c.args.parts.now c.loop-command.command-index c.command-item.result c.loop-command-test.true c.command-item.is) c.loop-command.invariant.placed in
+    record {
+      swept = swept_more s _ _ _ _ _ c.loop-command.invariant.swept c.in_ok-sweep_command.ensures.swept;
+      placed = parts_next s c.args.by y (knowledge_facts s.names.now c.args.known.now) c.command-item.result _ here;
+    }
+
+pub sweep::sweep_pipe-sweep_processes-requires : goal.sweep::sweep_pipe-sweep_processes-requires
+sweep::sweep_pipe-sweep_processes-requires t c =
+    let s = c.args.subject.now in
+    let y = walks.around s.script.now c.args.around.now in
+    let k = knowledge_facts s.names.now c.args.known.now in
+    let ps = (out-Pipe c.args.pipe.now).parts in
+    let long : 1 < length ps = subst (λ cs. 1 < length cs) c.as_slice-parts.ensures c.if-parts-gt1.true in
+    let placed : (k' : Facts) → ((q : Seen) → Knows s q k → Knows s (without_job q) k') → AreParts s F12 (entries.part_around true y) k' c.as_slice-parts.result.now =
+    λ k' known. subst (AreParts s F12 (entries.part_around true y) k') (sym c.as_slice-parts.ensures) (long_placed s c.args.by y k k' c.args.pipe.now long known c.requires.placed) in
+    search std_rules
+
+pub sweep::sweep_pipe-sweep_parts-requires : goal.sweep::sweep_pipe-sweep_parts-requires
+sweep::sweep_pipe-sweep_parts-requires t c =
+    let s = c.args.subject.now in
+    let y = walks.around s.script.now c.args.around.now in
+    let k = knowledge_facts s.names.now c.args.known.now in
+    let ps = (out-Pipe c.args.pipe.now).parts in
+    let short : length ps ≤ 1 = subst (λ cs. length cs ≤ 1) c.as_slice-parts.ensures c.if-parts-gt1.false in
+    let placed : AreParts s c.args.by y k c.as_slice-parts.result.now = subst (AreParts s c.args.by y k) (sym c.as_slice-parts.ensures) (short_placed s c.args.by y k c.args.pipe.now short c.requires.placed) in
+    search std_rules
+
+pub sweep::sweep_processes-sweep_parts-requires : goal.sweep::sweep_processes-sweep_parts-requires
+unfolding entries.item_seen
+sweep::sweep_processes-sweep_parts-requires t c =
+    let s = c.args.subject.now in
+    let k = knowledge_facts s.names.now c.started_in-seen.result in
+    let placed : AreParts s F12 (walks.around s.script.now c.round_parts-inner.result) k c.args.parts.now =
+    subst (λ z. AreParts s F12 z k c.args.parts.now) (sym (c.round_parts-inner.ensures s.script.now)) (c.requires.placed k c.started_in-seen.ensures) in
+    search std_rules
+
+pub sweep::sweep_subshell-sweep_list-requires : goal.sweep::sweep_subshell-sweep_list-requires
+sweep::sweep_subshell-sweep_list-requires t c =
+    let s = c.args.subject.now in
+    let r = c.requires.ready in
+    let w = c.requires.placed in
+    let k = knowledge_facts s.names.now c.process_of-known.result in
+    let placed : IsList s F11 (walks.around s.script.now c.alone-outside.result) k (script_of s.script.now c.args.list.now) =
+    subst (λ z. IsList s F11 z k (script_of s.script.now c.args.list.now)) (sym (c.alone-outside.ensures s.script.now))
+    (subshell_placed s w.0 c.args.number w.1 k (script_of s.script.now c.args.list.now) w.2 c.process_of-known.ensures) in
+    search std_rules
+
+pub sweep::sweep_kind-sweep_elements-requires : goal.sweep::sweep_kind-sweep_elements-requires
+sweep::sweep_kind-sweep_elements-requires t c =
+    let s = c.args.subject.now in
+    let r = c.requires.ready in
+    let y = walks.around s.script.now c.args.around.now in
+    let k = knowledge_facts s.names.now c.args.known.now in
+    let es = elements_from s.script.now c.in-Simple.elements in
+    let first = elements_placed s y c.args.number k es (kind_as s y c.args.number k c.args.kind.now _ _ c.in-Simple.is (program.kind_of-Simple s.script.now c.in-Simple.elements) c.requires.placed) in
+    let placed : IsIn s (λ q. entries.elements_entered q (behind_words (elements_from s.script.now c.as_slice.result.now) q) (elements_from s.script.now c.as_slice.result.now)) k =
+    subst (λ xs. IsIn s (λ q. entries.elements_entered q (behind_words (elements_from s.script.now xs) q) (elements_from s.script.now xs)) k) (sym c.as_slice.ensures) first in
+    search std_rules
+
+pub sweep::sweep_kind-sweep_list-requires : goal.sweep::sweep_kind-sweep_list-requires
+sweep::sweep_kind-sweep_list-requires t c =
+    let s = c.args.subject.now in
+    let r = c.requires.ready in
+    let y = walks.around s.script.now c.args.around.now in
+    let k = knowledge_facts s.names.now c.args.known.now in
+    let here = kind_as s y c.args.number k c.args.kind.now _ _ c.in-Group.is (program.kind_of-Group s.script.now c.in-Group.list) c.requires.placed in
+    let placed : IsList s F10 y k (script_of s.script.now c.in-Group.list) = group_placed s y c.args.number here.seen k (script_of s.script.now c.in-Group.list) here.part here.knows in
+    search std_rules
+
+pub sweep::sweep_kind-sweep_subshell-requires : goal.sweep::sweep_kind-sweep_subshell-requires
+sweep::sweep_kind-sweep_subshell-requires t c =
+    let s = c.args.subject.now in
+    let r = c.requires.ready in
+    let y = walks.around s.script.now c.args.around.now in
+    let k = knowledge_facts s.names.now c.args.known.now in
+    let here = kind_as s y c.args.number k c.args.kind.now _ _ c.in-Subshell.is (program.kind_of-Subshell s.script.now c.in-Subshell.list) c.requires.placed in
+    let placed : (z : Around) × (r : Seen) × IsPart s (entries.kind_entered z c.args.number r (p.Subshell (script_of s.script.now c.in-Subshell.list))) = (y, here.seen, here.part) in
+    search std_rules
+
+pub sweep::sweep_conditional-sweep_cond-requires : goal.sweep::sweep_conditional-sweep_cond-requires
+sweep::sweep_conditional-sweep_cond-requires t c =
+    let s = c.args.subject.now in
+    let r = c.requires.ready in
+    let y = walks.around s.script.now c.args.around.now in
+    let k = knowledge_facts s.names.now c.args.known.now in
+    let bs = branches_from s.script.now c.in-Cond.branches in
+    let z = otherwise_from s.script.now c.in-Cond.otherwise in
+    let here = kind_as s y c.args.number k c.args.kind.now _ _ c.in-Cond.is (program.kind_of-Cond s.script.now c.in-Cond.branches c.in-Cond.otherwise) c.requires.placed in
+    let first = branches_placed s y c.args.number here.seen k bs z here.part here.knows in
+    let placed : AreBranches s y k (branches_from s.script.now c.as_slice-branches.result.now) z = subst (λ cs. AreBranches s y k (branches_from s.script.now cs) z) (sym c.as_slice-branches.ensures) first in
+    search std_rules
+
+pub sweep::sweep_conditional-sweep_case-requires : goal.sweep::sweep_conditional-sweep_case-requires
+sweep::sweep_conditional-sweep_case-requires t c =
+    let s = c.args.subject.now in
+    let r = c.requires.ready in
+    let y = walks.around s.script.now c.args.around.now in
+    let k = knowledge_facts s.names.now c.args.known.now in
+    let w = parts_from s.script.now c.in-Branches.word.parts in
+    let here = kind_as s y c.args.number k c.args.kind.now _ _ c.in-Branches.is (program.kind_of-Branches s.script.now c.in-Branches.word c.in-Branches.clauses) c.requires.placed in
+    let first = case_placed s y c.args.number here.seen k w (clauses_from s.script.now c.in-Branches.clauses) here.part here.knows in
+    let placed : IsIn s (λ v. entries.word_entered v w ++ entries.clauses_entered y (gaining (word_gains w) v) [] (clauses_from s.script.now c.as_slice-clauses.result.now)) k =
+    subst (λ cs. IsIn s (λ v. entries.word_entered v w ++ entries.clauses_entered y (gaining (word_gains w) v) [] (clauses_from s.script.now cs)) k) (sym c.as_slice-clauses.ensures) first in
+    search std_rules
+
+pub sweep::sweep_iteration-sweep_loop-requires : goal.sweep::sweep_iteration-sweep_loop-requires
+sweep::sweep_iteration-sweep_loop-requires t c =
+    let s = c.args.subject.now in
+    let r = c.requires.ready in
+    let y = walks.around s.script.now c.args.around.now in
+    let k = knowledge_facts s.names.now c.args.known.now in
+    let here = kind_as s y c.args.number k c.args.kind.now _ _ c.in-Loop.is (program.kind_of-Loop s.script.now c.in-Loop.kind c.in-Loop.condition c.in-Loop.body) c.requires.placed in
+    let placed : (q : Seen) × IsPart s (entries.kind_entered y c.args.number q (p.Loop c.in-Loop.kind (script_of s.script.now c.in-Loop.condition) (script_of s.script.now c.in-Loop.body))) = (here.seen, here.part) in
+    search std_rules
+
+pub sweep::sweep_iteration-sweep_for_words-requires : goal.sweep::sweep_iteration-sweep_for_words-requires
+sweep::sweep_iteration-sweep_for_words-requires t c =
+    let s = c.args.subject.now in
+    let r = c.requires.ready in
+    let y = walks.around s.script.now c.args.around.now in
+    let k = knowledge_facts s.names.now c.args.known.now in
+    let here = kind_as s y c.args.number k c.args.kind.now _ _ c.in-For.is (program.kind_of-For s.script.now c.in-For.name c.in-For.words c.in-For.body) c.requires.placed in
+    let placed : IsIn s (λ q. entries.for_words_entered q (for_words_from s.script.now c.in-For.words)) k =
+    for_words_placed s y c.args.number k (text_of s.script.now c.in-For.name) (for_words_from s.script.now c.in-For.words) (script_of s.script.now c.in-For.body) here in
+    search std_rules
+
+pub sweep::sweep_iteration-sweep_for-requires : goal.sweep::sweep_iteration-sweep_for-requires
+sweep::sweep_iteration-sweep_for-requires t c =
+    let s = c.args.subject.now in
+    let r = c.requires.ready in
+    let y = walks.around s.script.now c.args.around.now in
+    let k = knowledge_facts s.names.now c.args.known.now in
+    let ready : IsReady s c.sweep_for_words.new.draft.certificate c.sweep_for_words.new.draft.probe.count = ready_again s _ _ _ _ r c.in_ok-sweep_for_words-in-For.ensures.swept in
+    let here = kind_as s y c.args.number k c.args.kind.now _ _ c.in-For.is (program.kind_of-For s.script.now c.in-For.name c.in-For.words c.in-For.body) c.requires.placed in
+    let placed : (q : Seen) × (ws : p.ForWords) × IsPart s (entries.kind_entered y c.args.number q (p.For (text_of s.script.now c.in-For.name) ws (script_of s.script.now c.in-For.body))) =
+    (here.seen, for_words_from s.script.now c.in-For.words, here.part) in
+    search std_rules
+
+pub sweep::sweep_inside-sweep_redirections-requires : goal.sweep::sweep_inside-sweep_redirections-requires
+sweep::sweep_inside-sweep_redirections-requires t c =
+    let s = c.args.subject.now in
+    let r = c.requires.ready in
+    let y = walks.around s.script.now c.args.around.now in
+    let m = c.args.command.now in
+    let first = redirections_placed s y m c.requires.placed in
+    let placed : IsPart s (entries.redirects_entered (at (Before (out-Command m).number)) (redirects_from s.script.now c.as_slice-redirects.result.now)) =
+    subst (λ rs. IsPart s (entries.redirects_entered (at (Before (out-Command m).number)) (redirects_from s.script.now rs))) (sym c.as_slice-redirects.ensures) first in
+    search std_rules
+
+pub sweep::sweep_inside-sweep_kind-requires : goal.sweep::sweep_inside-sweep_kind-requires
+sweep::sweep_inside-sweep_kind-requires t c =
+    let s = c.args.subject.now in
+    let r = c.requires.ready in
+    let y = walks.around s.script.now c.args.around.now in
+    let m = c.args.command.now in
+    let k = knowledge_facts s.names.now c.inside_of-inside.result in
+    let ready : IsReady s c.sweep_redirections.new.draft.certificate c.sweep_redirections.new.draft.probe.count = ready_again s _ _ _ _ r c.in_ok-sweep_redirections.ensures.swept in
+    let placed : IsKind s y (out-Command m).number k (out-Command m).kind = kind_placed s y k m c.requires.placed c.inside_of-inside.ensures in
+    search std_rules
+
+pub choices::sweep_case-pass_word-requires : goal.choices::sweep_case-pass_word-requires
+choices::sweep_case-pass_word-requires = choices.sweep_case-pass_word-requires
+
+pub choices::sweep_case-sweep_clauses-requires : goal.choices::sweep_case-sweep_clauses-requires
+choices::sweep_case-sweep_clauses-requires = choices.sweep_case-sweep_clauses-requires
+
+pub choices::sweep_clause-sweep_patterns-requires : goal.choices::sweep_clause-sweep_patterns-requires
+choices::sweep_clause-sweep_patterns-requires = choices.sweep_clause-sweep_patterns-requires
+
+pub words::sweep_elements-loop-element-init : goal.words::sweep_elements-loop-element-init
+words::sweep_elements-loop-element-init = words.sweep_elements-loop-element-init
+
+pub words::sweep_elements-sweep_element-requires : goal.words::sweep_elements-sweep_element-requires
+words::sweep_elements-sweep_element-requires = words.sweep_elements-sweep_element-requires
+
+pub words::sweep_elements-loop-element-preserved : goal.words::sweep_elements-loop-element-preserved
+words::sweep_elements-loop-element-preserved = words.sweep_elements-loop-element-preserved
+
+pub words::sweep_element-sweep_word-requires : goal.words::sweep_element-sweep_word-requires
+words::sweep_element-sweep_word-requires = words.sweep_element-sweep_word-requires
+
+pub words::sweep_element-pass_word-requires : goal.words::sweep_element-pass_word-requires
+words::sweep_element-pass_word-requires = words.sweep_element-pass_word-requires
+
+pub words::sweep_element-pass_target-requires : goal.words::sweep_element-pass_target-requires
+words::sweep_element-pass_target-requires = words.sweep_element-pass_target-requires
+
+pub words::sweep_redirections-sweep_redirects-requires : goal.words::sweep_redirections-sweep_redirects-requires
+words::sweep_redirections-sweep_redirects-requires = words.sweep_redirections-sweep_redirects-requires
+
+pub words::sweep_redirects-pass_target-requires : goal.words::sweep_redirects-pass_target-requires
+words::sweep_redirects-pass_target-requires = words.sweep_redirects-pass_target-requires
+
+pub words::sweep_redirects-loop-redirect-preserved : goal.words::sweep_redirects-loop-redirect-preserved
+words::sweep_redirects-loop-redirect-preserved = words.sweep_redirects-loop-redirect-preserved
+
+pub words::pass_target-pass_word-requires : goal.words::pass_target-pass_word-requires
+words::pass_target-pass_word-requires = words.pass_target-pass_word-requires
+
+pub words::sweep_for_words-sweep_words-requires : goal.words::sweep_for_words-sweep_words-requires
+words::sweep_for_words-sweep_words-requires = words.sweep_for_words-sweep_words-requires
+
+pub words::sweep_words-pass_word-requires : goal.words::sweep_words-pass_word-requires
+words::sweep_words-pass_word-requires = words.sweep_words-pass_word-requires
+
+pub words::sweep_words-loop-word-preserved : goal.words::sweep_words-loop-word-preserved
+words::sweep_words-loop-word-preserved = words.sweep_words-loop-word-preserved
+
+pub words::sweep_patterns-sweep_word-requires : goal.words::sweep_patterns-sweep_word-requires
+words::sweep_patterns-sweep_word-requires = words.sweep_patterns-sweep_word-requires
+
+pub words::sweep_patterns-loop-pattern-preserved : goal.words::sweep_patterns-loop-pattern-preserved
+words::sweep_patterns-loop-pattern-preserved = words.sweep_patterns-loop-pattern-preserved
+
+pub words::sweep_word-pass_parts-requires : goal.words::sweep_word-pass_parts-requires
+words::sweep_word-pass_parts-requires = words.sweep_word-pass_parts-requires
+
+pub words::pass_parts-loop-part-init : goal.words::pass_parts-loop-part-init
+words::pass_parts-loop-part-init = words.pass_parts-loop-part-init
+
+pub words::pass_parts-pass_part-requires : goal.words::pass_parts-pass_part-requires
+words::pass_parts-pass_part-requires = words.pass_parts-pass_part-requires
+
+pub words::pass_parts-loop-part-preserved : goal.words::pass_parts-loop-part-preserved
+words::pass_parts-loop-part-preserved = words.pass_parts-loop-part-preserved
+
+pub words::pass_parts-returns-clause-gained : goal.words::pass_parts-returns-clause-gained
+words::pass_parts-returns-clause-gained = words.pass_parts-returns-clause-gained
+
+pub words::open_part-pass_parts-requires : goal.words::open_part-pass_parts-requires
+words::open_part-pass_parts-requires = words.open_part-pass_parts-requires
+
+pub words::open_part-pass_operator-requires : goal.words::open_part-pass_operator-requires
+words::open_part-pass_operator-requires = words.open_part-pass_operator-requires
+
+pub words::open_part-pass_arithmetic-requires : goal.words::open_part-pass_arithmetic-requires
+words::open_part-pass_arithmetic-requires = words.open_part-pass_arithmetic-requires
+
+pub words::open_part-sweep_substitution-requires : goal.words::open_part-sweep_substitution-requires
+words::open_part-sweep_substitution-requires = words.open_part-sweep_substitution-requires
+
+pub words::open_part-returns-in-Plain-clause-gained : goal.words::open_part-returns-in-Plain-clause-gained
+words::open_part-returns-in-Plain-clause-gained = words.open_part-returns-in-Plain-clause-gained
+
+pub words::open_part-returns-in-Escaped-clause-gained : goal.words::open_part-returns-in-Escaped-clause-gained
+words::open_part-returns-in-Escaped-clause-gained = words.open_part-returns-in-Escaped-clause-gained
+
+pub words::open_part-returns-in-Single-clause-gained : goal.words::open_part-returns-in-Single-clause-gained
+words::open_part-returns-in-Single-clause-gained = words.open_part-returns-in-Single-clause-gained
+
+pub words::open_part-returns-in-Tilde-clause-gained : goal.words::open_part-returns-in-Tilde-clause-gained
+words::open_part-returns-in-Tilde-clause-gained = words.open_part-returns-in-Tilde-clause-gained
+
+pub words::open_part-returns-in-Joined-clause-gained : goal.words::open_part-returns-in-Joined-clause-gained
+words::open_part-returns-in-Joined-clause-gained = words.open_part-returns-in-Joined-clause-gained
+
+pub words::sweep_substitution-sweep_list-requires : goal.words::sweep_substitution-sweep_list-requires
+words::sweep_substitution-sweep_list-requires = words.sweep_substitution-sweep_list-requires
+
+pub words::pass_operator-pass_action-requires : goal.words::pass_operator-pass_action-requires
+words::pass_operator-pass_action-requires = words.pass_operator-pass_action-requires
+
+pub words::pass_operator-sweep_word-requires : goal.words::pass_operator-sweep_word-requires
+words::pass_operator-sweep_word-requires = words.pass_operator-sweep_word-requires
+
+pub words::pass_operator-returns-in-Value-clause-gained : goal.words::pass_operator-returns-in-Value-clause-gained
+words::pass_operator-returns-in-Value-clause-gained = words.pass_operator-returns-in-Value-clause-gained
+
+pub words::pass_operator-returns-in-Length-clause-gained : goal.words::pass_operator-returns-in-Length-clause-gained
+words::pass_operator-returns-in-Length-clause-gained = words.pass_operator-returns-in-Length-clause-gained
+
+pub words::pass_action-sweep_word-requires : goal.words::pass_action-sweep_word-requires
+words::pass_action-sweep_word-requires = words.pass_action-sweep_word-requires
+
+pub words::pass_arithmetic-returns-clause-gained : goal.words::pass_arithmetic-returns-clause-gained
+words::pass_arithmetic-returns-clause-gained = words.pass_arithmetic-returns-clause-gained
+
+pub words::open_expression-pass_part-requires : goal.words::open_expression-pass_part-requires
+words::open_expression-pass_part-requires = words.open_expression-pass_part-requires
+
+pub words::open_expression-pass_expression-requires : goal.words::open_expression-pass_expression-requires
+words::open_expression-pass_expression-requires = words.open_expression-pass_expression-requires
+
+pub words::open_expression-returns-in-Constant-clause-gained : goal.words::open_expression-returns-in-Constant-clause-gained
+words::open_expression-returns-in-Constant-clause-gained = words.open_expression-returns-in-Constant-clause-gained
+
+pub words::open_expression-returns-in-Variable-clause-gained : goal.words::open_expression-returns-in-Variable-clause-gained
+words::open_expression-returns-in-Variable-clause-gained = words.open_expression-returns-in-Variable-clause-gained
+
+pub words::open_expression-pass_chain-requires : goal.words::open_expression-pass_chain-requires
+words::open_expression-pass_chain-requires = words.open_expression-pass_chain-requires
+
+pub words::open_expression-pass_choice-requires : goal.words::open_expression-pass_choice-requires
+words::open_expression-pass_choice-requires = words.open_expression-pass_choice-requires
+
+pub words::pass_chain-pass_expression-requires : goal.words::pass_chain-pass_expression-requires
+words::pass_chain-pass_expression-requires = words.pass_chain-pass_expression-requires
+
+pub words::pass_chain-pass_operands-requires : goal.words::pass_chain-pass_operands-requires
+words::pass_chain-pass_operands-requires = words.pass_chain-pass_operands-requires
+
+pub words::pass_chain-returns : goal.words::pass_chain-returns
+words::pass_chain-returns = words.pass_chain-returns
+
+pub words::pass_operands-loop-link-init : goal.words::pass_operands-loop-link-init
+words::pass_operands-loop-link-init = words.pass_operands-loop-link-init
+
+pub words::pass_operands-pass_expression-requires : goal.words::pass_operands-pass_expression-requires
+words::pass_operands-pass_expression-requires = words.pass_operands-pass_expression-requires
+
+pub words::pass_operands-loop-link-preserved : goal.words::pass_operands-loop-link-preserved
+words::pass_operands-loop-link-preserved = words.pass_operands-loop-link-preserved
+
+pub words::pass_operands-returns-clause-gained : goal.words::pass_operands-returns-clause-gained
+words::pass_operands-returns-clause-gained = words.pass_operands-returns-clause-gained
+
+pub words::pass_choice-pass_expression-requires : goal.words::pass_choice-pass_expression-requires
+words::pass_choice-pass_expression-requires = words.pass_choice-pass_expression-requires
+
+pub words::pass_choice-pass_expression-requires-2 : goal.words::pass_choice-pass_expression-requires-2
+words::pass_choice-pass_expression-requires-2 = words.pass_choice-pass_expression-requires-2
+
+pub words::pass_choice-pass_expression-requires-3 : goal.words::pass_choice-pass_expression-requires-3
+words::pass_choice-pass_expression-requires-3 = words.pass_choice-pass_expression-requires-3
+
+pub words::pass_choice-returns : goal.words::pass_choice-returns
+words::pass_choice-returns = words.pass_choice-returns
+
+pub words::sweep_element-returns-in-Assignment-clause-passed : goal.words::sweep_element-returns-in-Assignment-clause-passed
+words::sweep_element-returns-in-Assignment-clause-passed = words.sweep_element-returns-in-Assignment-clause-passed
+
+pub words::sweep_element-returns-in-Word-clause-passed : goal.words::sweep_element-returns-in-Word-clause-passed
+words::sweep_element-returns-in-Word-clause-passed = words.sweep_element-returns-in-Word-clause-passed
+
+pub words::sweep_element-returns-in-Redirection-clause-passed : goal.words::sweep_element-returns-in-Redirection-clause-passed
+words::sweep_element-returns-in-Redirection-clause-passed = words.sweep_element-returns-in-Redirection-clause-passed
+
+pub words::pass_target-returns-in-File-clause-gained : goal.words::pass_target-returns-in-File-clause-gained
+words::pass_target-returns-in-File-clause-gained = words.pass_target-returns-in-File-clause-gained
+
+pub words::pass_target-returns-in-Here-clause-gained : goal.words::pass_target-returns-in-Here-clause-gained
+words::pass_target-returns-in-Here-clause-gained = words.pass_target-returns-in-Here-clause-gained
+
+pub words::pass_target-pass_word-requires-in-Here : goal.words::pass_target-pass_word-requires-in-Here
+words::pass_target-pass_word-requires-in-Here = words.pass_target-pass_word-requires-in-Here
+
+pub words::open_part-returns-in-Command-clause-gained : goal.words::open_part-returns-in-Command-clause-gained
+words::open_part-returns-in-Command-clause-gained = words.open_part-returns-in-Command-clause-gained
+
+pub words::open_part-returns-in-Double-clause-gained : goal.words::open_part-returns-in-Double-clause-gained
+words::open_part-returns-in-Double-clause-gained = words.open_part-returns-in-Double-clause-gained
+
+pub words::open_part-returns-in-Param-clause-gained : goal.words::open_part-returns-in-Param-clause-gained
+words::open_part-returns-in-Param-clause-gained = words.open_part-returns-in-Param-clause-gained
+
+pub words::open_part-returns-in-Arith-clause-gained : goal.words::open_part-returns-in-Arith-clause-gained
+words::open_part-returns-in-Arith-clause-gained = words.open_part-returns-in-Arith-clause-gained
+
+pub words::pass_operator-returns-in-Remove-clause-gained : goal.words::pass_operator-returns-in-Remove-clause-gained
+words::pass_operator-returns-in-Remove-clause-gained = words.pass_operator-returns-in-Remove-clause-gained
+
+pub words::pass_operator-returns-in-Use-clause-gained : goal.words::pass_operator-returns-in-Use-clause-gained
+words::pass_operator-returns-in-Use-clause-gained = words.pass_operator-returns-in-Use-clause-gained
+
+pub words::open_expression-returns-in-Parenthesis-clause-gained : goal.words::open_expression-returns-in-Parenthesis-clause-gained
+words::open_expression-returns-in-Parenthesis-clause-gained = words.open_expression-returns-in-Parenthesis-clause-gained
+
+pub words::open_expression-returns-in-Unary-clause-gained : goal.words::open_expression-returns-in-Unary-clause-gained
+words::open_expression-returns-in-Unary-clause-gained = words.open_expression-returns-in-Unary-clause-gained
+
+pub words::open_expression-pass_expression-requires-in-Unary : goal.words::open_expression-pass_expression-requires-in-Unary
+words::open_expression-pass_expression-requires-in-Unary = words.open_expression-pass_expression-requires-in-Unary
+
+pub words::open_expression-returns-in-Assign-clause-gained : goal.words::open_expression-returns-in-Assign-clause-gained
+words::open_expression-returns-in-Assign-clause-gained = words.open_expression-returns-in-Assign-clause-gained
+
+pub words::open_expression-pass_expression-requires-in-Assign : goal.words::open_expression-pass_expression-requires-in-Assign
+words::open_expression-pass_expression-requires-in-Assign = words.open_expression-pass_expression-requires-in-Assign
+
+pub words::open_expression-returns-in-Expansion-clause-gained : goal.words::open_expression-returns-in-Expansion-clause-gained
+words::open_expression-returns-in-Expansion-clause-gained = words.open_expression-returns-in-Expansion-clause-gained
+
+pub words::open_expression-returns-in-Chain-clause-gained : goal.words::open_expression-returns-in-Chain-clause-gained
+words::open_expression-returns-in-Chain-clause-gained = words.open_expression-returns-in-Chain-clause-gained
+
+pub words::open_expression-returns-in-Choice-clause-gained : goal.words::open_expression-returns-in-Choice-clause-gained
+words::open_expression-returns-in-Choice-clause-gained = words.open_expression-returns-in-Choice-clause-gained
+
+pub words::pass_part-returns-then-levels-eq0-clause-gained : goal.words::pass_part-returns-then-levels-eq0-clause-gained
+words::pass_part-returns-then-levels-eq0-clause-gained = words.pass_part-returns-then-levels-eq0-clause-gained
+
+pub words::pass_expression-returns-then-levels-eq0-clause-gained : goal.words::pass_expression-returns-then-levels-eq0-clause-gained
+words::pass_expression-returns-then-levels-eq0-clause-gained = words.pass_expression-returns-then-levels-eq0-clause-gained
+
+pub choices::sweep_clause-returns-clause-swept : goal.choices::sweep_clause-returns-clause-swept
+choices::sweep_clause-returns-clause-swept = choices.sweep_clause-returns-clause-swept
+
+pub choices::sweep_cond-returns-in-Some : goal.choices::sweep_cond-returns-in-Some
+choices::sweep_cond-returns-in-Some = choices.sweep_cond-returns-in-Some
+
+pub sweep::sweep_items-sweep_or_pass-requires : goal.sweep::sweep_items-sweep_or_pass-requires
+sweep::sweep_items-sweep_or_pass-requires t c =
+    let s = c.args.subject.now in
+    let r = c.requires.ready in
+    let y = walks.around s.script.now c.args.around.now in
+    let is = c.args.items.now in
+    let at = c.loop-place.place in
+    let next = c.pass_idle-next.result in
+    let course = c.pass_idle-next.new.course in
+    let ready : IsReady s c.loop-place.draft.certificate c.loop-place.draft.probe.count = ready_again s _ _ _ _ r c.loop-place.invariant.swept in
+    let here : AreItems s course.by y (known_behind s course.behind) (c.index-items-next.result ∷ drop (next + 1) is) =
+    next_item s y is at next c.index-items-next.result c.pass_idle-next.ensures.from c.pass_idle-next.ensures.there c.index-items-next.is c.loop-place.course course c.loop-place.invariant.placed c.pass_idle-next.ensures.passed in
+    let placed : (others : List Item) × AreItems s course.by y (known_behind s course.behind) (c.index-items-next.result ∷ others) = (_, here) in
+    search std_rules
+
+pub sweep::sweep_items-loop-place-preserved : goal.sweep::sweep_items-loop-place-preserved
+sweep::sweep_items-loop-place-preserved t c =
+    let s = c.args.subject.now in
+    let y = walks.around s.script.now c.args.around.now in
+    let is = c.args.items.now in
+    let at = c.loop-place.place in
+    let next = c.pass_idle-next.result in
+    let course = c.pass_idle-next.new.course in
+    let here : AreItems s course.by y (known_behind s course.behind) (c.index-items-next.result ∷ drop (next + 1) is) =
+    next_item s y is at next c.index-items-next.result c.pass_idle-next.ensures.from c.pass_idle-next.ensures.there c.index-items-next.is c.loop-place.course course c.loop-place.invariant.placed c.pass_idle-next.ensures.passed in
+    record {
+      swept = swept_more s _ _ _ _ _ c.loop-place.invariant.swept c.in_ok-is_new.ensures.swept;
+      placed = items_next s y course c.sweep_or_pass.new.course c.index-items-next.result _ here c.in_ok-is_new.ensures.passed;
+      goes = λ o k. goes_next s o course c.sweep_or_pass.new.course is c.index-items-next.result _
+          (next_goes s o is at next c.index-items-next.result c.pass_idle-next.ensures.from c.pass_idle-next.ensures.there c.index-items-next.is c.loop-place.course course (c.loop-place.invariant.goes o k) c.pass_idle-next.ensures.passed) c.in_ok-is_new.ensures.passed;
+    }
+
+pub sweep::sweep_items-returns-clause-behind : goal.sweep::sweep_items-returns-clause-behind
+sweep::sweep_items-returns-clause-behind t c =
+    λ o k.
+    let s = c.args.subject.now in
+    goes_last s o (known_behind s c.loop-place.course.behind) c.args.items.now
+    (subst (GoesOn s o (known_behind s c.loop-place.course.behind) c.args.items.now) (drop_all c.loop-place.place c.args.items.now c.loop-place-test.false) (c.loop-place.invariant.goes o k))
+
+pub sweep::sweep_links-link_or_pass-requires : goal.sweep::sweep_links-link_or_pass-requires
+sweep::sweep_links-link_or_pass-requires t c =
+    let s = c.args.subject.now in
+    let r = c.requires.ready in
+    let y = walks.around s.script.now c.args.around.now in
+    let ready : IsReady s c.loop-link.draft.certificate c.loop-link.draft.probe.count = ready_again s _ _ _ _ r c.loop-link.invariant.swept in
+    let here : AreLinks s y (known_behind s c.loop-link.behind) (c.link-item.result ∷ drop (c.loop-link.link-index + 1) c.args.links.now) = subst (AreLinks s y (known_behind s c.loop-link.behind)) (at_index c.args.links.now c.loop-link.link-index c.link-item.result c.loop-link-test.true c.link-item.is) c.loop-link.invariant.placed in
+    let placed : (others : List (Link × Pipe)) × AreLinks s y (known_behind s c.loop-link.behind) (c.link-item.result ∷ others) = (_, here) in
+    search std_rules
+
+pub sweep::sweep_links-loop-link-preserved : goal.sweep::sweep_links-loop-link-preserved
+sweep::sweep_links-loop-link-preserved t c =
+    let s = c.args.subject.now in
+    let y = walks.around s.script.now c.args.around.now in
+    let here : AreLinks s y (known_behind s c.loop-link.behind) (c.link-item.result ∷ drop (c.loop-link.link-index + 1) c.args.links.now) = subst (AreLinks s y (known_behind s c.loop-link.behind)) (at_index c.args.links.now c.loop-link.link-index c.link-item.result c.loop-link-test.true c.link-item.is) c.loop-link.invariant.placed in
+    record { swept = swept_more s _ _ _ _ _ c.loop-link.invariant.swept c.in_ok-is_new.ensures.swept; placed = c.in_ok-is_new.ensures.passed _ here }
+
+pub sweep::link_or_pass-returns-then-not-does_pipe_wait-clause-passed : goal.sweep::link_or_pass-returns-then-not-does_pipe_wait-clause-passed
+sweep::link_or_pass-returns-then-not-does_pipe_wait-clause-passed t c =
+    λ others here.
+    let s = c.args.subject.now in
+    let y = walks.around s.script.now c.args.around.now in
+    links_next s y (known_behind s c.args.behind.now) _ c.args.link.now others c.pass_link.ensures here
+
+pub sweep::sweep_simple-sweep_held-requires : goal.sweep::sweep_simple-sweep_held-requires
+sweep::sweep_simple-sweep_held-requires t c =
+    let s = c.args.subject.now in
+    let r = c.requires.ready in
+    let y = walks.around s.script.now c.args.around.now in
+    let placed : IsInside s y c.args.command.now = inside_placed s c.args.by y (knowledge_facts s.names.now c.args.known.now) c.args.command.now c.requires.placed in
+    search std_rules
+
+pub sweep::sweep_simple-sweep_called-requires : goal.sweep::sweep_simple-sweep_called-requires
+sweep::sweep_simple-sweep_called-requires t c =
+    let s = c.args.subject.now in
+    let r = c.requires.ready in
+    let ready : IsReady s c.lower_behind.new.draft.certificate c.lower_behind.new.draft.probe.count = ready_again s _ _ _ _ r (swept_more s _ _ _ _ _ c.in_ok-sweep_held.ensures.swept c.in_ok-lower_behind.ensures.swept) in
+    search std_rules
+
+pub sweep::sweep_simple-lower_behind-requires-2-clause-ready : goal.sweep::sweep_simple-lower_behind-requires-2-clause-ready
+sweep::sweep_simple-lower_behind-requires-2-clause-ready t c =
+    let s = c.args.subject.now in
+    ready_again s _ _ _ _ c.requires.ready (swept_more s _ _ _ _ _ (swept_more s _ _ _ _ _ c.in_ok-sweep_held.ensures.swept c.in_ok-lower_behind.ensures.swept) c.in_ok-sweep_called.ensures.swept)
+
+pub sweep::sweep_simple-returns : goal.sweep::sweep_simple-returns
+sweep::sweep_simple-returns t c =
+    let s = c.args.subject.now in
+    record { swept = swept_more s _ _ _ _ _ (swept_more s _ _ _ _ _ (swept_more s _ _ _ _ _ c.in_ok-sweep_held.ensures.swept c.in_ok-lower_behind.ensures.swept) c.in_ok-sweep_called.ensures.swept) c.in_ok-lower_behind-2.ensures.swept }
+
+pub sweep::sweep_compound-returns : goal.sweep::sweep_compound-returns
+sweep::sweep_compound-returns t c =
+    let s = c.args.subject.now in
+    record { swept = swept_more s _ _ _ _ _ c.in_ok-sweep_rounds.ensures.swept c.in_ok-lower_behind.ensures.swept }
+
+pub sweep::sweep_simple-returns-then-not-is_news : goal.sweep::sweep_simple-returns-then-not-is_news
+sweep::sweep_simple-returns-then-not-is_news t c = record { swept = swept_more c.args.subject.now _ _ _ _ _ c.in_ok-sweep_held.ensures.swept c.in_ok-lower_behind.ensures.swept }
+
+pub rounds::sweep_rounds-sweep_inside-requires : goal.rounds::sweep_rounds-sweep_inside-requires
+rounds::sweep_rounds-sweep_inside-requires = bodies.sweep_rounds-sweep_inside-requires
+
+pub rounds::sweep_rounds-lower_head-requires-in-loop-round-clause-ready : goal.rounds::sweep_rounds-lower_head-requires-in-loop-round-clause-ready
+rounds::sweep_rounds-lower_head-requires-in-loop-round-clause-ready = bodies.sweep_rounds-lower_head-requires-in-loop-round-clause-ready
+
+pub rounds::sweep_rounds-loop-round-preserved : goal.rounds::sweep_rounds-loop-round-preserved
+rounds::sweep_rounds-loop-round-preserved = bodies.sweep_rounds-loop-round-preserved
+
+pub rounds::sweep_rounds-returns-then-eq : goal.rounds::sweep_rounds-returns-then-eq
+rounds::sweep_rounds-returns-then-eq = bodies.sweep_rounds-returns-then-eq
+
+pub rounds::sweep_rounds-returns-then-is_once : goal.rounds::sweep_rounds-returns-then-is_once
+rounds::sweep_rounds-returns-then-is_once = bodies.sweep_rounds-returns-then-is_once
+
+pub rounds::sweep_rounds-returns : goal.rounds::sweep_rounds-returns
+rounds::sweep_rounds-returns = bodies.sweep_rounds-returns
+
+pub bodies::sweep_called-definitions-number-items-requires-clause-some : goal.bodies::sweep_called-definitions-number-items-requires-clause-some
+bodies::sweep_called-definitions-number-items-requires-clause-some = bodies.sweep_called-definitions-number-items-requires-clause-some
+
+pub bodies::sweep_called-definitions-number-items-requires-clause-within : goal.bodies::sweep_called-definitions-number-items-requires-clause-within
+bodies::sweep_called-definitions-number-items-requires-clause-within = bodies.sweep_called-definitions-number-items-requires-clause-within
+
+pub bodies::sweep_called-sweep_unseen-requires : goal.bodies::sweep_called-sweep_unseen-requires
+bodies::sweep_called-sweep_unseen-requires = bodies.sweep_called-sweep_unseen-requires
+
+pub bodies::sweep_called-loop-number-preserved : goal.bodies::sweep_called-loop-number-preserved
+bodies::sweep_called-loop-number-preserved = bodies.sweep_called-loop-number-preserved
+
+pub bodies::sweep_function-sweep_defined-requires : goal.bodies::sweep_function-sweep_defined-requires
+bodies::sweep_function-sweep_defined-requires = bodies.sweep_function-sweep_defined-requires
+
+pub bodies::sweep_defined-sweep_body-requires : goal.bodies::sweep_defined-sweep_body-requires
+bodies::sweep_defined-sweep_body-requires = bodies.sweep_defined-sweep_body-requires
+
+pub bodies::sweep_body-sweep_definition-requires : goal.bodies::sweep_body-sweep_definition-requires
+bodies::sweep_body-sweep_definition-requires = bodies.sweep_body-sweep_definition-requires
+
+pub bodies::sweep_body-lower_return-requires-clause-ready : goal.bodies::sweep_body-lower_return-requires-clause-ready
+bodies::sweep_body-lower_return-requires-clause-ready = bodies.sweep_body-lower_return-requires-clause-ready
+
+pub bodies::sweep_body-lower_return-requires-clause-stands : goal.bodies::sweep_body-lower_return-requires-clause-stands
+bodies::sweep_body-lower_return-requires-clause-stands = bodies.sweep_body-lower_return-requires-clause-stands
+
+pub bodies::sweep_body-lower_return-requires-2-clause-ready : goal.bodies::sweep_body-lower_return-requires-2-clause-ready
+bodies::sweep_body-lower_return-requires-2-clause-ready = bodies.sweep_body-lower_return-requires-2-clause-ready
+
+pub bodies::sweep_body-lower_return-requires-2-clause-stands : goal.bodies::sweep_body-lower_return-requires-2-clause-stands
+bodies::sweep_body-lower_return-requires-2-clause-stands = bodies.sweep_body-lower_return-requires-2-clause-stands
+
+pub bodies::sweep_body-place_in-other-requires : goal.bodies::sweep_body-place_in-other-requires
+bodies::sweep_body-place_in-other-requires = bodies.sweep_body-place_in-other-requires
+
+pub bodies::sweep_body-returns : goal.bodies::sweep_body-returns
+bodies::sweep_body-returns = bodies.sweep_body-returns

@@ -1,0 +1,184 @@
+use Rattle.std.proofs.Common.{rules as std_rules, ◌≡◌, ◌+◌, ◌∷◌, List, drop, sym, subst}
+use Rattle.sh_tree.specs.declared.tree.Branch.{Branch, out-Branch}
+use Rattle.sh_tree.specs.declared.tree.Clause.{Clause, out-Clause}
+use Rattle.sh_tree.specs.Lists.{branches_from, clauses_from, otherwise_from, parts_from, words_from}
+use Rattle.sh_tree.specs.standard.program.Syntax as p
+use Rattle.sh_tree.specs.standard.program.Trees.{script_of}
+use Rattle.sh_domain.specs.declared.rule.FlowRule.TheVariants.{F6, F9}
+use Rattle.sh_domain.specs.Entries as entries
+use Rattle.sh_domain.specs.Entries.{Around}
+use Rattle.sh_domain.specs.Facts.{NotReached, meet}
+use Rattle.sh_domain.specs.Knowledge.{knowledge_facts}
+use Rattle.sh_rules.specs.Behind.{both}
+use Rattle.sh_rules.specs.Walks as walks
+use Rattle.sh_rules.specs.Walks.{facts_in}
+use Rattle.sh_sweeps.specs.Sweeps.{AreBranches, AreClauses, AreItems, IsIn, IsList, IsWord, known_behind, setting_by}
+use Rattle.sh_drafts.specs.Ready.{IsReady}
+use Rattle.sh_sweeps.proofs.PlacedLemmas.{at_index, begun_at, branch_body, branch_condition, branches_next, clause_list, clauses_next, clauses_placed, else_placed, known_after}
+use Rattle.sh_drafts.proofs.ReadyLemmas.{names_numbered, ready_again, swept_more, swept_none}
+use Rattle.sh_sweeps.proofs.WordLemmas.{case_word, clause_patterns, if_ok}
+use Rattle.sh_passes.proofs.+sweep.Goals as goal
+
+pub sweep_branch-sweep_items-requires : goal.choices::sweep_branch-sweep_items-requires
+unfolding facts_in
+sweep_branch-sweep_items-requires t c =
+    let s = c.args.subject.now in
+    let r = c.requires.ready in
+    let y = walks.around s.script.now c.args.around.now in
+    let k = knowledge_facts s.names.now c.args.known.now in
+    let begun : known_behind s c.begun-course.result.behind ≡ both k = c.begun-course.ensures.behind (setting_by s c.args.draft.now.certificate) in
+    let w = c.requires.placed in
+    let placed : AreItems s c.begun-course.result.by y (known_behind s c.begun-course.result.behind) c.as_slice.result.now =
+    begun_at s y k c.begun-course.result F6 (out-Branch c.args.branch.now).condition c.as_slice.result.now c.begun-course.ensures.by begun c.as_slice.ensures (branch_condition s y k c.args.branch.now w.0 w.1 w.2) in
+    search std_rules
+
+pub sweep_branch-sweep_list-requires : goal.choices::sweep_branch-sweep_list-requires
+unfolding facts_in
+sweep_branch-sweep_list-requires t c =
+    let s = c.args.subject.now in
+    let r = c.requires.ready in
+    let y = walks.around s.script.now c.args.around.now in
+    let ready : IsReady s c.sweep_items.new.draft.certificate c.sweep_items.new.draft.probe.count = ready_again s _ _ _ _ r c.in_ok-sweep_items.ensures.swept in
+    let k = knowledge_facts s.names.now c.args.known.now in
+    let begun : known_behind s c.begun-course.result.behind ≡ both k = c.begun-course.ensures.behind (setting_by s c.args.draft.now.certificate) in
+    let after = known_after s k c.begun-course.result c.sweep_items.new.course (out-Branch c.args.branch.now).condition c.as_slice.result.now begun c.as_slice.ensures c.in_ok-sweep_items.ensures.behind in
+    let w = c.requires.placed in
+    let placed : IsList s F6 y (knowledge_facts s.names.now c.sweep_items.new.course.behind.zero) (script_of s.script.now (out-Branch c.args.branch.now).body) =
+    branch_body s y k _ c.args.branch.now w.0 w.1 (λ q w other keeps. (after q w other keeps).zero) w.2 in
+    search std_rules
+
+pub sweep_branch-returns-clause-swept : goal.choices::sweep_branch-returns-clause-swept
+sweep_branch-returns-clause-swept t c =
+    swept_more c.args.subject.now _ _ _ _ _ c.in_ok-sweep_items.ensures.swept c.in_ok-sweep_list.ensures.swept
+
+pub sweep_branch-returns-clause-passed : goal.choices::sweep_branch-returns-clause-passed
+unfolding facts_in
+sweep_branch-returns-clause-passed t c =
+    λ others z here.
+    let s = c.args.subject.now in
+    let y = walks.around s.script.now c.args.around.now in
+    let k = knowledge_facts s.names.now c.args.known.now in
+    let begun : known_behind s c.begun-course.result.behind ≡ both k = c.begun-course.ensures.behind (setting_by s c.args.draft.now.certificate) in
+    let after = known_after s k c.begun-course.result c.sweep_items.new.course (out-Branch c.args.branch.now).condition c.as_slice.result.now begun c.as_slice.ensures c.in_ok-sweep_items.ensures.behind in
+    branches_next s y k _ c.args.branch.now others z (λ q w other keeps. (after q w other keeps).nonzero) here
+
+pub sweep_branches-sweep_branch-requires : goal.choices::sweep_branches-sweep_branch-requires
+sweep_branches-sweep_branch-requires t c =
+    let s = c.args.subject.now in
+    let r = c.requires.ready in
+    let y = walks.around s.script.now c.args.around.now in
+    let ready : IsReady s c.loop-branch.draft.certificate c.loop-branch.draft.probe.count = ready_again s _ _ _ _ r c.loop-branch.invariant.swept in
+    let here : AreBranches s y (knowledge_facts s.names.now c.loop-branch.known) (branches_from s.script.now (c.branch-item.result ∷ drop (c.loop-branch.branch-index + 1) c.args.branches.now)) (otherwise_from s.script.now c.args.otherwise.now) = subst (λ bs. AreBranches s y (knowledge_facts s.names.now c.loop-branch.known) (branches_from s.script.now bs) (otherwise_from s.script.now c.args.otherwise.now)) (at_index c.args.branches.now c.loop-branch.branch-index c.branch-item.result c.loop-branch-test.true c.branch-item.is) c.loop-branch.invariant.placed in
+    let placed : (others : List Branch) × (z : p.Otherwise) × AreBranches s y (knowledge_facts s.names.now c.loop-branch.known) (branches_from s.script.now (c.branch-item.result ∷ others)) z = (_, _, here) in
+    search std_rules
+
+pub sweep_branches-loop-branch-preserved : goal.choices::sweep_branches-loop-branch-preserved
+sweep_branches-loop-branch-preserved t c =
+    let s = c.args.subject.now in
+    let y = walks.around s.script.now c.args.around.now in
+    let here : AreBranches s y (knowledge_facts s.names.now c.loop-branch.known) (branches_from s.script.now (c.branch-item.result ∷ drop (c.loop-branch.branch-index + 1) c.args.branches.now)) (otherwise_from s.script.now c.args.otherwise.now) = subst (λ bs. AreBranches s y (knowledge_facts s.names.now c.loop-branch.known) (branches_from s.script.now bs) (otherwise_from s.script.now c.args.otherwise.now)) (at_index c.args.branches.now c.loop-branch.branch-index c.branch-item.result c.loop-branch-test.true c.branch-item.is) c.loop-branch.invariant.placed in
+    record { swept = swept_more s _ _ _ _ _ c.loop-branch.invariant.swept c.in_ok-sweep_branch.ensures.swept; placed = c.in_ok-sweep_branch.ensures.passed _ _ here }
+
+pub sweep_clauses-loop-clause-init : goal.choices::sweep_clauses-loop-clause-init
+unfolding knowledge_facts
+sweep_clauses-loop-clause-init t c =
+    let s = c.args.subject.now in
+    let r = c.requires.ready in
+    record { swept = swept_none s _ _ r; placed = c.requires.placed }
+
+pub sweep_clauses-sweep_clause-requires : goal.choices::sweep_clauses-sweep_clause-requires
+sweep_clauses-sweep_clause-requires t c =
+    let s = c.args.subject.now in
+    let r = c.requires.ready in
+    let y = walks.around s.script.now c.args.around.now in
+    let ready : IsReady s c.loop-clause.draft.certificate c.loop-clause.draft.probe.count = ready_again s _ _ _ _ r c.loop-clause.invariant.swept in
+    let here : AreClauses s y (knowledge_facts s.names.now c.args.behind.now) (knowledge_facts s.names.now c.loop-clause.fallen) (clauses_from s.script.now (c.clause-item.result ∷ drop (c.loop-clause.clause-index + 1) c.args.clauses.now)) = subst (λ cs. AreClauses s y (knowledge_facts s.names.now c.args.behind.now) (knowledge_facts s.names.now c.loop-clause.fallen) (clauses_from s.script.now cs)) (at_index c.args.clauses.now c.loop-clause.clause-index c.clause-item.result c.loop-clause-test.true c.clause-item.is) c.loop-clause.invariant.placed in
+    let placed : (others : List Clause) × AreClauses s y (knowledge_facts s.names.now c.args.behind.now) (knowledge_facts s.names.now c.loop-clause.fallen) (clauses_from s.script.now (c.clause-item.result ∷ others)) = (_, here) in
+    search std_rules
+
+pub sweep_clauses-loop-clause-preserved : goal.choices::sweep_clauses-loop-clause-preserved
+sweep_clauses-loop-clause-preserved t c =
+    let s = c.args.subject.now in
+    let y = walks.around s.script.now c.args.around.now in
+    let here : AreClauses s y (knowledge_facts s.names.now c.args.behind.now) (knowledge_facts s.names.now c.loop-clause.fallen) (clauses_from s.script.now (c.clause-item.result ∷ drop (c.loop-clause.clause-index + 1) c.args.clauses.now)) = subst (λ cs. AreClauses s y (knowledge_facts s.names.now c.args.behind.now) (knowledge_facts s.names.now c.loop-clause.fallen) (clauses_from s.script.now cs)) (at_index c.args.clauses.now c.loop-clause.clause-index c.clause-item.result c.loop-clause-test.true c.clause-item.is) c.loop-clause.invariant.placed in
+    record { swept = swept_more s _ _ _ _ _ c.loop-clause.invariant.swept c.in_ok-sweep_clause.ensures.swept; placed = c.in_ok-sweep_clause.ensures.passed _ here }
+
+pub sweep_body-sweep_items-requires : goal.choices::sweep_body-sweep_items-requires
+unfolding facts_in
+sweep_body-sweep_items-requires t c =
+    let s = c.args.subject.now in
+    let r = c.requires.ready in
+    let y = walks.around s.script.now c.args.around.now in
+    let k = knowledge_facts s.names.now c.args.behind.now in
+    let old = knowledge_facts s.names.now c.args.fallen.now in
+    let known = knowledge_facts s.names.now c.met-known.result in
+    let same : known ≡ meet k old = c.met-known.ensures (setting_by s c.args.draft.now.certificate) in
+    let begun : known_behind s c.begun-course.result.behind ≡ both known = c.begun-course.ensures.behind (setting_by s c.args.draft.now.certificate) in
+    let placed : AreItems s c.begun-course.result.by y (known_behind s c.begun-course.result.behind) c.as_slice.result.now =
+    begun_at s y known c.begun-course.result F9 (out-Clause c.args.clause.now).body c.as_slice.result.now c.begun-course.ensures.by begun c.as_slice.ensures
+    (clause_list s y k old known c.args.clause.now c.requires.placed.0 same _ (names_numbered s _ _ r) r.over c.requires.placed.1) in
+    search std_rules
+
+pub sweep_body-returns-clause-passed : goal.choices::sweep_body-returns-clause-passed
+unfolding facts_in
+sweep_body-returns-clause-passed t c =
+    λ others here.
+    let s = c.args.subject.now in
+    let r = c.requires.ready in
+    let y = walks.around s.script.now c.args.around.now in
+    let k = knowledge_facts s.names.now c.args.behind.now in
+    let old = knowledge_facts s.names.now c.args.fallen.now in
+    let known = knowledge_facts s.names.now c.met-known.result in
+    let same : known ≡ meet k old = c.met-known.ensures (setting_by s c.args.draft.now.certificate) in
+    let begun : known_behind s c.begun-course.result.behind ≡ both known = c.begun-course.ensures.behind (setting_by s c.args.draft.now.certificate) in
+    let after = known_after s known c.begun-course.result c.sweep_items.new.course (out-Clause c.args.clause.now).body c.as_slice.result.now begun c.as_slice.ensures c.in_ok-sweep_items.ensures.behind in
+    clauses_next s y k old known (known_behind s c.sweep_items.new.course.behind) _ c.args.clause.now others same (c.falling.ensures (setting_by s c.args.draft.now.certificate)) after _ (names_numbered s _ _ r) c.in_ok-sweep_items.ensures.swept.over here
+
+pub sweep_cond-sweep_list-requires : goal.choices::sweep_cond-sweep_list-requires
+sweep_cond-sweep_list-requires t c =
+    let s = c.args.subject.now in
+    let r = c.requires.ready in
+    let y = walks.around s.script.now c.args.around.now in
+    let ready : IsReady s c.sweep_branches.new.draft.certificate c.sweep_branches.new.draft.probe.count = ready_again s _ _ _ _ r c.in_ok-sweep_branches.ensures.swept in
+    let placed : IsList s F6 y (knowledge_facts s.names.now c.sweep_branches.new.known) (script_of s.script.now c.in-Some.list) =
+    else_placed s y (knowledge_facts s.names.now c.sweep_branches.new.known) c.args.otherwise.now c.in-Some.list c.in-Some.is c.in_ok-sweep_branches.ensures.left in
+    search std_rules
+
+pub sweep_case-pass_word-requires : goal.choices::sweep_case-pass_word-requires
+sweep_case-pass_word-requires t c =
+    let s = c.args.subject.now in
+    let r = c.requires.ready in
+    let y = walks.around s.script.now c.args.around.now in
+    let k = knowledge_facts s.names.now c.args.known.now in
+    let placed : IsWord s k (parts_from s.script.now c.args.word.now.parts) = case_word s y k (parts_from s.script.now c.args.word.now.parts) (clauses_from s.script.now c.args.clauses.now) c.requires.placed in
+    search std_rules
+
+pub sweep_case-sweep_clauses-requires : goal.choices::sweep_case-sweep_clauses-requires
+sweep_case-sweep_clauses-requires t c =
+    let s = c.args.subject.now in
+    let r = c.requires.ready in
+    let y = walks.around s.script.now c.args.around.now in
+    let k = knowledge_facts s.names.now c.args.known.now in
+    let ready : IsReady s c.pass_word.new.draft.certificate c.pass_word.new.draft.probe.count = ready_again s _ _ _ _ r c.in_ok-pass_word.ensures.swept in
+    let placed : AreClauses s y (knowledge_facts s.names.now c.pass_word.new.known) NotReached (clauses_from s.script.now c.args.clauses.now) =
+    clauses_placed s y k (knowledge_facts s.names.now c.pass_word.new.known) (parts_from s.script.now c.args.word.now.parts) (clauses_from s.script.now c.args.clauses.now)
+    c.in_ok-pass_word.ensures.gained c.requires.placed _ (names_numbered s _ _ r) r.over in
+    search std_rules
+
+pub sweep_clause-sweep_patterns-requires : goal.choices::sweep_clause-sweep_patterns-requires
+sweep_clause-sweep_patterns-requires t c =
+    let s = c.args.subject.now in
+    let r = c.requires.ready in
+    let y = walks.around s.script.now c.args.around.now in
+    let k = knowledge_facts s.names.now c.args.behind.now in
+    let w = c.requires.placed in
+    let first = clause_patterns s y k (knowledge_facts s.names.now c.args.fallen.now) c.args.clause.now w.0 w.1 in
+    let placed : IsIn s (λ q. entries.patterns_entered q (words_from s.script.now c.as_slice.result.now)) k =
+    subst (λ ws. IsIn s (λ q. entries.patterns_entered q (words_from s.script.now ws)) k) (sym c.as_slice.ensures) first in
+    search std_rules
+
+pub sweep_clause-returns-clause-swept : goal.choices::sweep_clause-returns-clause-swept
+sweep_clause-returns-clause-swept t c = if_ok c.sweep_body.result _ _ (λ u h. swept_more c.args.subject.now _ _ _ _ _ c.in_ok-sweep_patterns.ensures.swept h) c.sweep_body.ensures.swept
+
+pub sweep_cond-returns-in-Some : goal.choices::sweep_cond-returns-in-Some
+sweep_cond-returns-in-Some t c = record { swept = if_ok c.sweep_list.result _ _ (λ u h. swept_more c.args.subject.now _ _ _ _ _ c.in_ok-sweep_branches.ensures.swept h) c.sweep_list.ensures.swept }

@@ -1,0 +1,287 @@
+//! The bodies of functions are units of their own, and the commands outside of them are another
+//! (XCU 2.9.5).
+ghost use Rattle.std.specs.Prelude.{◌≡◌, ℕ, false, Some, IfOk, IfSome};
+ghost use Rattle.sh_tree.specs.standard.Tree.{text_of};
+ghost use Rattle.sh_tree.specs.standard.program.Syntax as p;
+ghost use Rattle.sh_tree.specs.standard.program.Trees as trees;
+ghost use Rattle.sh_domain.specs.declared.rule.FlowRule.{FlowRule};
+ghost use Rattle.sh_domain.specs.Admitted.{functions_in};
+ghost use Rattle.sh_domain.specs.Entries as entries;
+ghost use Rattle.sh_domain.specs.Entries.{command_entered};
+ghost use Rattle.sh_domain.specs.Facts.{facts};
+ghost use Rattle.sh_domain.specs.Knowledge.{knowledge_facts};
+ghost use Rattle.sh_domain.specs.Order.{IsWithin};
+ghost use Rattle.sh_domain.specs.Sheets.{Sheet};
+ghost use Rattle.sh_domain.specs.Views.{Seen};
+ghost use Rattle.sh_rules.specs.Places.{slot_of};
+ghost use Rattle.sh_drafts.specs.Places.{claim_there, place_of};
+ghost use Rattle.sh_sweeps.specs.Sweeps.{IsPart};
+ghost use Rattle.sh_drafts.specs.Ready.{IsReady, IsSwept, Keeps};
+
+use crate::sweep::{LEVELS, sweep_definition, sweep_items};
+use sh_domain::{Certificate, FlowRule, Knowledge};
+use sh_drafts::{Draft, Place, Subject, lower_assured};
+use sh_rules::{Place as Slot, alone, begun};
+use sh_sweeps::known::{nonzero_of, zero_of};
+use sh_sweeps::{claims_of, spot_of};
+use sh_tree::{Command, Kind, Span};
+use sh_worklist::Unit;
+use std::alloc::AllocError;
+
+/// Lowers the certificate in the bodies of the function that a command calls, except those over
+/// which a pass has begun and the call does not go again.
+///
+/// # Errors
+///
+/// If a growth was refused or no place for a row is left.
+#[cycle(sweep)]
+pub fn sweep_called(
+    subject: &Subject<'_>,
+    draft: &mut Draft,
+    levels: u32,
+    command: &Command,
+) -> Result<(), AllocError>
+    requires ready { IsReady subject.now draft.old.certificate draft.old.probe.count }
+    ensures swept { IfOk result (λ unit. IsSwept subject.now draft.old.certificate draft.new.certificate draft.new.probe.count) }
+{
+    let Some(function) = subject.table.callee(command.number) else {
+        return Ok(());
+    };
+    for number in subject.table.definitions(function) {
+        sweep_unseen(subject, draft, levels, *number)?;
+    }
+    Ok(())
+}
+
+/// Whether a command calls a function over whose bodies the sweep goes again at once: a hint.
+pub fn is_called_again(subject: &Subject<'_>, draft: &Draft, command: &Command) -> bool {
+    let Some(function) = subject.table.callee(command.number) else {
+        return false;
+    };
+    match subject.table.definitions(function) {
+        [number, ..] => draft.goes_again(*number),
+        [] => false,
+    }
+}
+
+// As `sweep_function`, if no pass over the body has begun, or if the call goes over it again.
+#[cycle(sweep)]
+fn sweep_unseen(
+    subject: &Subject<'_>,
+    draft: &mut Draft,
+    levels: u32,
+    number: u32,
+) -> Result<(), AllocError>
+    requires ready { IsReady subject.now draft.old.certificate draft.old.probe.count }
+    ensures swept { IfOk result (λ unit. IsSwept subject.now draft.old.certificate draft.new.certificate draft.new.probe.count) }
+{
+    if draft.waiting.units.is_unseen(number) {
+        return sweep_function(subject, draft, levels, number);
+    }
+    if !draft.goes_again(number) {
+        return Ok(());
+    }
+    let looks = draft.looks;
+    let again = draft.again;
+    sweep_function(subject, draft, levels, number)?;
+    draft.again = again.saturating_add(draft.looks.saturating_sub(looks));
+    Ok(())
+}
+
+// Lowers the certificate in the body of the definition of a number, and where its function returns.
+#[cycle(sweep)]
+fn sweep_function(
+    subject: &Subject<'_>,
+    draft: &mut Draft,
+    levels: u32,
+    number: u32,
+) -> Result<(), AllocError>
+    requires ready { IsReady subject.now draft.old.certificate draft.old.probe.count }
+    ensures swept { IfOk result (λ unit. IsSwept subject.now draft.old.certificate draft.new.certificate draft.new.probe.count) }
+{
+    let commands = subject.commands;
+    let index = number.saturating_sub(1) as usize;
+    if index >= commands.len() {
+        return Ok(());
+    }
+    draft.waiting.units.begin(number)?;
+    let outer = draft.waiting.enter_body(number);
+    sweep_defined(subject, draft, levels, commands[index])?;
+    draft.waiting.leave(outer);
+    draft.waiting.units.end(number)
+}
+
+// The place that the rules speak of so, if a script may have it, and nothing is stated.
+fn place_in(subject: &Subject<'_>, certificate: &Certificate, slot: Slot<'_>) -> Option<Place>
+    requires { (probed : ℕ) × IsReady subject.now certificate.now probed }
+    ensures there { IfSome result (λ place. Some place ≡ place_of (functions_in subject.now.script.now subject.now.tree.now) (slot_of slot.entry)) }
+    ensures free { IfSome result (λ place. subject.now.stated ≡ false) }
+{
+    if subject.stated {
+        return None;
+    }
+    let claims = claims_of(subject, certificate);
+    let spot = spot_of(&claims, slot)?;
+    spot.place()
+}
+
+// Lowers what is claimed at a place to what is known there, if any run comes to it.
+fn lower_return(
+    subject: &Subject<'_>,
+    draft: &mut Draft,
+    place: Option<Place>,
+    known: &Knowledge,
+) -> Result<(), AllocError>
+    requires ready { IsReady subject.now draft.old.certificate draft.old.probe.count }
+    requires free { IfSome place (λ there. subject.now.stated ≡ false) }
+    requires stands { subject.now.stated ≡ false → IfSome place (λ there. (other : Sheet) → Keeps subject.now other
+        → IsWithin (facts (claim_there other (Some there))) (knowledge_facts subject.now.names.now known.now)) }
+    ensures swept { IfOk result (λ unit. IsSwept subject.now draft.old.certificate draft.new.certificate draft.new.probe.count) }
+{
+    let Some(place) = place else {
+        return Ok(());
+    };
+    match known {
+        Knowledge::NotReached => Ok(()),
+        Knowledge::Known(assured) => lower_assured(subject, draft, place, assured),
+    }
+}
+
+// Lowers the certificate in the body of a definition, and where its function returns.
+#[cycle(sweep)]
+fn sweep_defined(
+    subject: &Subject<'_>,
+    draft: &mut Draft,
+    levels: u32,
+    command: &Command,
+) -> Result<(), AllocError>
+    requires ready { IsReady subject.now draft.old.certificate draft.old.probe.count }
+    requires placed { (by : FlowRule) × (y : entries.Around) × (q : Seen) × IsPart subject.now (command_entered by y q (trees.command_of subject.now.script.now command.now)) }
+    ensures swept { IfOk result (λ unit. IsSwept subject.now draft.old.certificate draft.new.certificate draft.new.probe.count) }
+{
+    match &command.kind {
+        Kind::Define { name, body } => sweep_body(subject, draft, levels, *name, body.get()),
+        _ => Ok(()),
+    }
+}
+
+// Lowers the certificate in the body of a function, and where the function returns.
+#[cycle(sweep)]
+fn sweep_body(
+    subject: &Subject<'_>,
+    draft: &mut Draft,
+    levels: u32,
+    name: Span,
+    body: &Command,
+) -> Result<(), AllocError>
+    requires ready { IsReady subject.now draft.old.certificate draft.old.probe.count }
+    requires placed { (by : FlowRule) × (y : entries.Around) × (q : Seen) × (n : ℕ) × (offset : ℕ) × (rs : p.Redirects)
+        × IsPart subject.now (command_entered by y q (p.command n offset (p.Define (text_of subject.now.script.now name) (trees.command_of subject.now.script.now body.now)) rs)) }
+    ensures swept { IfOk result (λ unit. IsSwept subject.now draft.old.certificate draft.new.certificate draft.new.probe.count) }
+{
+    sweep_definition(subject, draft, levels, name, body)?;
+    let text = name.text(subject.script);
+    let zero = zero_of(subject, &draft.certificate, body.number);
+    let place = place_in(subject, &draft.certificate, Slot::ReturnZero(text));
+    lower_return(subject, draft, place, &zero)?;
+    let nonzero = nonzero_of(subject, &draft.certificate, body.number);
+    let other = place_in(subject, &draft.certificate, Slot::ReturnNonzero(text));
+    lower_return(subject, draft, other, &nonzero)?;
+    Ok(())
+}
+
+// Lowers the certificate at the commands outside of functions.
+fn sweep_outside(subject: &Subject<'_>, draft: &mut Draft) -> Result<(), AllocError>
+    requires { IsReady subject.now draft.old.certificate draft.old.probe.count }
+    ensures { IfOk result (λ unit. IsSwept subject.now draft.old.certificate draft.new.certificate draft.new.probe.count) }
+{
+    let start = subject.start();
+    let mut course = begun(FlowRule::F1, &start);
+    let outside = alone();
+    let items = subject.tree.items.as_slice();
+    sweep_items(subject, draft, LEVELS, &outside, &mut course, items)
+}
+
+fn sweep_unit(subject: &Subject<'_>, draft: &mut Draft, unit: Unit) -> Result<(), AllocError>
+    requires { IsReady subject.now draft.old.certificate draft.old.probe.count }
+    ensures { IfOk result (λ unit. IsSwept subject.now draft.old.certificate draft.new.certificate draft.new.probe.count) }
+{
+    match unit {
+        Unit::Outside => sweep_outside(subject, draft),
+        Unit::Body(definition) => sweep_function(subject, draft, LEVELS, definition),
+    }
+}
+
+/// Lowers a certificate at the commands that wait until none does, or until the counts are to be
+/// solved apart. A sweep is a hint: its clause is true of one that lowers nothing too. The turns
+/// after it lower what it leaves.
+///
+/// # Errors
+///
+/// If a growth was refused or no place for a row is left.
+pub fn sweep_waiting(subject: &Subject<'_>, draft: &mut Draft) -> Result<(), AllocError>
+    requires { IsReady subject.now draft.old.certificate draft.old.probe.count }
+    ensures { IfOk result (λ unit. IsSwept subject.now draft.old.certificate draft.new.certificate draft.new.probe.count) }
+{
+    for _unit in 0..u32::MAX {
+        let Some(unit) = draft.waiting.units.next()? else {
+            return Ok(());
+        };
+        sweep_unit(subject, draft, unit)?;
+        if draft.is_tired() {
+            return Ok(());
+        }
+    }
+    Ok(())
+}
+
+// Lowers a certificate in a body, if a command defines a function.
+fn sweep_if_defined(
+    subject: &Subject<'_>,
+    draft: &mut Draft,
+    command: &Command,
+) -> Result<(), AllocError>
+    requires { IsReady subject.now draft.old.certificate draft.old.probe.count }
+    ensures { IfOk result (λ unit. IsSwept subject.now draft.old.certificate draft.new.certificate draft.new.probe.count) }
+{
+    if !matches!(&command.kind, Kind::Define { .. }) {
+        return Ok(());
+    }
+    sweep_function(subject, draft, LEVELS, command.number)
+}
+
+/// Lowers a certificate at all commands once, those outside of functions first.
+///
+/// # Errors
+///
+/// If a growth was refused or no place for a row is left.
+pub fn sweep_round(subject: &Subject<'_>, draft: &mut Draft) -> Result<(), AllocError>
+    requires { IsReady subject.now draft.old.certificate draft.old.probe.count }
+    ensures { IfOk result (λ unit. IsSwept subject.now draft.old.certificate draft.new.certificate draft.new.probe.count) }
+{
+    draft.waiting.wait_all();
+    sweep_outside(subject, draft)?;
+    for command in subject.commands {
+        sweep_if_defined(subject, draft, command)?;
+    }
+    Ok(())
+}
+
+/// Lowers a certificate by rounds over all commands until one lowers nothing.
+///
+/// # Errors
+///
+/// If a growth was refused or no place for a row is left.
+pub fn sweep_by_rounds(subject: &Subject<'_>, draft: &mut Draft) -> Result<(), AllocError>
+    requires { IsReady subject.now draft.old.certificate draft.old.probe.count }
+    ensures { IfOk result (λ unit. IsSwept subject.now draft.old.certificate draft.new.certificate draft.new.probe.count) }
+{
+    for _round in 0..u32::MAX {
+        let before = draft.lowered;
+        sweep_round(subject, draft)?;
+        if draft.lowered == before {
+            return Ok(());
+        }
+    }
+    Ok(())
+}

@@ -1,0 +1,353 @@
+//! Lowers a command by what it asks itself, and not by what the commands in it ask.
+ghost use Rattle.std.specs.Prelude.{◌≡◌, ℕ, true, length, IfOk};
+ghost use Rattle.sh_domain.specs.Knowledge.{knowledge_facts};
+ghost use Rattle.sh_domain.specs.Sheets.{Sheet};
+ghost use Rattle.sh_rules.specs.Steps.{met_in};
+ghost use Rattle.sh_rules.specs.Visits.{command_by};
+ghost use Rattle.sh_rules.specs.Walks as walks;
+ghost use Rattle.sh_rules.specs.Walks.{setting};
+ghost use Rattle.sh_domain.specs.Admitted.{IsAdmitted};
+ghost use Rattle.sh_sweeps.specs.Sides.{AreNumbersBeside, IsQuietBeside, StandsBeside, sided_of};
+ghost use Rattle.sh_sweeps.specs.Asked.{asking_by, unstated};
+ghost use Rattle.sh_sweeps.specs.Sweeps.{IsCommand, setting_by};
+ghost use Rattle.sh_drafts.specs.Ready.{IsReady, IsSwept, Keeps};
+ghost use Rattle.sh_drafts.specs.Turns.{AreNumbers, IsQuiet, Stands};
+ghost use Rattle.sh_sweeps.specs.Asked.{gathered_of};
+
+use sh_domain::{Certificate, Facts, FlowRule, Knowledge, is_loop};
+use sh_drafts::kept::{drops_of, facts_at};
+use sh_drafts::{Draft, Part, Place, Subject, Target, lower_at, note_lowered};
+use sh_rules::{Around, Asked, Claims};
+use sh_sweeps::{Gather, Sides, Unstated, claims_of, lower_before, lower_gathered};
+use sh_tree::Command;
+use sh_visits::tell_command;
+use std::alloc::AllocError;
+
+// What the flow rules ask at a command, except of what is stated, is done with this.
+#[inline(never)]
+fn tell_unstated<A: Asked + Copy>(
+    claims: &Claims<'_>,
+    by: FlowRule,
+    around: &Around<'_>,
+    known: &Knowledge,
+    command: &Command,
+    asked: &mut A,
+)
+    ensures { A.kept asked.new ≡ command_by (unstated A.asked) (setting claims.now) (A.kept asked.old) (met_in (setting claims.now) by around.now known.now command.now) }
+{
+    let mut unstated = Unstated { asked: *asked };
+    tell_command(claims, by, around, known, command, &mut unstated);
+    let Unstated { asked: told } = unstated;
+    *asked = told;
+}
+
+// What the flow rules ask at a command is done with this.
+fn tell<A: Asked + Copy>(
+    subject: &Subject<'_>,
+    certificate: &Certificate,
+    by: FlowRule,
+    around: &Around<'_>,
+    known: &Knowledge,
+    command: &Command,
+    asked: &mut A,
+)
+    requires sized { certificate.now.rows.count ≡ length subject.now.names.now }
+    requires admitted { IsAdmitted subject.now.script.now subject.now.policy.now subject.now.tree.now subject.now.names.now }
+    ensures { A.kept asked.new ≡ command_by (asking_by subject.now.stated A.asked) (setting_by subject.now certificate.now) (A.kept asked.old) (met_in (setting_by subject.now certificate.now) by around.now known.now command.now) }
+{
+    let claims = claims_of(subject, certificate);
+    if subject.stated {
+        tell_unstated(&claims, by, around, known, command, asked);
+    } else {
+        tell_command(&claims, by, around, known, command, asked);
+    }
+}
+
+// What the flow rules ask at a command, gathered for a place and a function.
+fn asked_of(
+    subject: &Subject<'_>,
+    certificate: &Certificate,
+    by: FlowRule,
+    around: &Around<'_>,
+    known: &Knowledge,
+    command: &Command,
+    target: Target,
+) -> Gather
+    requires ready { (probed : ℕ) × IsReady subject.now certificate.now probed }
+    requires placed { IsCommand subject.now by (walks.around subject.now.script.now around.now) (knowledge_facts subject.now.names.now known.now) command.now }
+    ensures numbers { AreNumbers (length subject.now.names.now) (gathered_of result) }
+    ensures quiet { subject.now.stated ≡ true → IsQuiet (gathered_of result) }
+    ensures stands { (other : Sheet) → Keeps subject.now other → Stands subject.now.names.now other (gathered_of result) }
+{
+    let mut gather = Gather::new(target);
+    tell(
+        subject,
+        certificate,
+        by,
+        around,
+        known,
+        command,
+        &mut gather,
+    );
+    gather
+}
+
+// The index of a command, or the first if a script may not have its number: a hint.
+fn index_of(command: &Command) -> u16 {
+    u16::try_from(command.number.saturating_sub(1)).unwrap_or(0)
+}
+
+// Whether a place is one of the command of an index, and the function the first: a hint.
+fn is_own(target: Target, index: u16) -> bool {
+    target.function == 0 && target.place.index == index && !target.place.part.is_of_function()
+}
+
+// Whether a function is entered here, and was not yet: a hint.
+fn is_unentered(draft: &Draft, place: Place) -> bool {
+    place.part == Part::Entered
+        && matches!(facts_at(&draft.certificate, place), Some(Facts::NotReached))
+}
+
+// Lowers what is claimed at a place, and what a function may drop, by what a command asks. Says
+// whether all of it was kept, and of what more was asked.
+fn lower_once(
+    subject: &Subject<'_>,
+    draft: &mut Draft,
+    by: FlowRule,
+    around: &Around<'_>,
+    known: &Knowledge,
+    command: &Command,
+    target: Target,
+) -> Result<(bool, Target), AllocError>
+    requires ready { IsReady subject.now draft.old.certificate draft.old.probe.count }
+    requires placed { IsCommand subject.now by (walks.around subject.now.script.now around.now) (knowledge_facts subject.now.names.now known.now) command.now }
+    ensures swept { IfOk result (λ answer. IsSwept subject.now draft.old.certificate draft.new.certificate draft.new.probe.count) }
+{
+    let is_first = is_unentered(&*draft, target.place);
+    let before = facts_at(&draft.certificate, target.place);
+    let drops = drops_of(&draft.certificate, target.function);
+    let gather = asked_of(
+        subject,
+        &draft.certificate,
+        by,
+        around,
+        known,
+        command,
+        target,
+    );
+    let is_lowered = lower_gathered(
+        subject.names,
+        subject.writable,
+        &mut draft.certificate,
+        &mut draft.probe,
+        &gather,
+    )?;
+    note_lowered(subject, draft, target, before, drops, is_lowered)?;
+    draft.entered = draft
+        .entered
+        .saturating_add(u64::from(is_lowered && is_first));
+    draft.looks = draft.looks.saturating_add(1);
+    Ok((gather.kept, gather.next))
+}
+
+/// Lowers the certificate where a command is entered and after it.
+///
+/// # Errors
+///
+/// If a growth was refused or no place for a row is left.
+pub fn lower_command(
+    subject: &Subject<'_>,
+    draft: &mut Draft,
+    by: FlowRule,
+    around: &Around<'_>,
+    known: &Knowledge,
+    command: &Command,
+) -> Result<(), AllocError>
+    requires ready { IsReady subject.now draft.old.certificate draft.old.probe.count }
+    requires placed { IsCommand subject.now by (walks.around subject.now.script.now around.now) (knowledge_facts subject.now.names.now known.now) command.now }
+    ensures swept { IfOk result (λ unit. IsSwept subject.now draft.old.certificate draft.new.certificate draft.new.probe.count) }
+{
+    lower_before(subject, draft, known, command)?;
+    lower_behind(subject, draft, by, around, known, command)?;
+    Ok(())
+}
+
+/// Lowers what is claimed at each turn of a loop.
+///
+/// # Errors
+///
+/// If a growth was refused or no place for a row is left.
+pub fn lower_head(
+    subject: &Subject<'_>,
+    draft: &mut Draft,
+    by: FlowRule,
+    around: &Around<'_>,
+    known: &Knowledge,
+    command: &Command,
+) -> Result<(), AllocError>
+    requires ready { IsReady subject.now draft.old.certificate draft.old.probe.count }
+    requires placed { IsCommand subject.now by (walks.around subject.now.script.now around.now) (knowledge_facts subject.now.names.now known.now) command.now }
+    ensures swept { IfOk result (λ unit. IsSwept subject.now draft.old.certificate draft.new.certificate draft.new.probe.count) }
+{
+    if !is_loop(command) {
+        return Ok(());
+    }
+    let index = index_of(command);
+    let part = Part::Head;
+    let place = Place { part, index };
+    let target = Target { place, function: 0 };
+    lower_others(subject, draft, by, around, known, command, index, target)?;
+    Ok(())
+}
+
+// What the flow rules ask at a command, gathered for both places after it.
+fn asked_behind(
+    subject: &Subject<'_>,
+    certificate: &Certificate,
+    by: FlowRule,
+    around: &Around<'_>,
+    known: &Knowledge,
+    command: &Command,
+    index: u16,
+) -> Sides
+    requires ready { (probed : ℕ) × IsReady subject.now certificate.now probed }
+    requires placed { IsCommand subject.now by (walks.around subject.now.script.now around.now) (knowledge_facts subject.now.names.now known.now) command.now }
+    ensures numbers { AreNumbersBeside (length subject.now.names.now) (sided_of result) }
+    ensures quiet { subject.now.stated ≡ true → IsQuietBeside (sided_of result) }
+    ensures stands { (other : Sheet) → Keeps subject.now other → StandsBeside subject.now.names.now other (sided_of result) }
+{
+    let part = Part::Zero;
+    let place = Place { part, index };
+    let target = Target { place, function: 0 };
+    let part = Part::Nonzero;
+    let place = Place { part, index };
+    let gather = Gather::new(target);
+    let mut sides = Sides {
+        gather,
+        place,
+        known: None,
+    };
+    tell(subject, certificate, by, around, known, command, &mut sides);
+    sides
+}
+
+// Lowers what is claimed at the first of two places, and what a function may drop, by what was
+// gathered.
+fn lower_first(subject: &Subject<'_>, draft: &mut Draft, sides: &Sides) -> Result<(), AllocError>
+    requires ready { IsReady subject.now draft.old.certificate draft.old.probe.count }
+    requires numbers { AreNumbersBeside (length subject.now.names.now) (sided_of sides.now) }
+    requires quiet { subject.now.stated ≡ true → IsQuietBeside (sided_of sides.now) }
+    requires stands { (other : Sheet) → Keeps subject.now other → StandsBeside subject.now.names.now other (sided_of sides.now) }
+    ensures swept { IfOk result (λ unit. IsSwept subject.now draft.old.certificate draft.new.certificate draft.new.probe.count) }
+{
+    let target = sides.gather.target;
+    let before = facts_at(&draft.certificate, target.place);
+    let drops = drops_of(&draft.certificate, target.function);
+    let is_lowered = lower_gathered(
+        subject.names,
+        subject.writable,
+        &mut draft.certificate,
+        &mut draft.probe,
+        &sides.gather,
+    )?;
+    note_lowered(subject, draft, target, before, drops, is_lowered)?;
+    Ok(())
+}
+
+// Lowers what is claimed at the second of two places, if any run comes to it.
+fn lower_second(subject: &Subject<'_>, draft: &mut Draft, sides: &Sides) -> Result<(), AllocError>
+    requires ready { IsReady subject.now draft.old.certificate draft.old.probe.count }
+    requires numbers { AreNumbersBeside (length subject.now.names.now) (sided_of sides.now) }
+    requires quiet { subject.now.stated ≡ true → IsQuietBeside (sided_of sides.now) }
+    requires stands { (other : Sheet) → Keeps subject.now other → StandsBeside subject.now.names.now other (sided_of sides.now) }
+    ensures swept { IfOk result (λ unit. IsSwept subject.now draft.old.certificate draft.new.certificate draft.new.probe.count) }
+{
+    match &sides.known {
+        None => Ok(()),
+        Some(sight) => lower_at(subject, draft, sides.place, sight),
+    }
+}
+
+// Lowers what is claimed at both places after a command by one visit. Says whether all of it was
+// kept, and of what more was asked.
+fn lower_sides(
+    subject: &Subject<'_>,
+    draft: &mut Draft,
+    by: FlowRule,
+    around: &Around<'_>,
+    known: &Knowledge,
+    command: &Command,
+    index: u16,
+) -> Result<(bool, Target), AllocError>
+    requires ready { IsReady subject.now draft.old.certificate draft.old.probe.count }
+    requires placed { IsCommand subject.now by (walks.around subject.now.script.now around.now) (knowledge_facts subject.now.names.now known.now) command.now }
+    ensures swept { IfOk result (λ answer. IsSwept subject.now draft.old.certificate draft.new.certificate draft.new.probe.count) }
+{
+    let sides = asked_behind(
+        subject,
+        &draft.certificate,
+        by,
+        around,
+        known,
+        command,
+        index,
+    );
+    draft.looks = draft.looks.saturating_add(1);
+    if sides.gather.kept {
+        return Ok((true, sides.gather.next));
+    }
+    lower_first(subject, draft, &sides)?;
+    lower_second(subject, draft, &sides)?;
+    Ok((false, sides.gather.next))
+}
+
+// Lowers what is claimed elsewhere, and what a function may drop, by what the command of an index
+// asks, here and at one more place.
+fn lower_others(
+    subject: &Subject<'_>,
+    draft: &mut Draft,
+    by: FlowRule,
+    around: &Around<'_>,
+    known: &Knowledge,
+    command: &Command,
+    index: u16,
+    target: Target,
+) -> Result<(), AllocError>
+    requires ready { IsReady subject.now draft.old.certificate draft.old.probe.count }
+    requires placed { IsCommand subject.now by (walks.around subject.now.script.now around.now) (knowledge_facts subject.now.names.now known.now) command.now }
+    ensures swept { IfOk result (λ unit. IsSwept subject.now draft.old.certificate draft.new.certificate draft.new.probe.count) }
+{
+    let (kept, next) = lower_once(subject, draft, by, around, known, command, target)?;
+    if kept || is_own(next, index) || next == target {
+        return Ok(());
+    }
+    lower_once(subject, draft, by, around, known, command, next)?;
+    Ok(())
+}
+
+/// Lowers what is claimed after a command. Lowers too what is claimed elsewhere or what a function
+/// may drop, if the command asks for more of that.
+///
+/// # Errors
+///
+/// If a growth was refused or no place for a row is left.
+pub fn lower_behind(
+    subject: &Subject<'_>,
+    draft: &mut Draft,
+    by: FlowRule,
+    around: &Around<'_>,
+    known: &Knowledge,
+    command: &Command,
+) -> Result<(), AllocError>
+    requires ready { IsReady subject.now draft.old.certificate draft.old.probe.count }
+    requires placed { IsCommand subject.now by (walks.around subject.now.script.now around.now) (knowledge_facts subject.now.names.now known.now) command.now }
+    ensures swept { IfOk result (λ unit. IsSwept subject.now draft.old.certificate draft.new.certificate draft.new.probe.count) }
+{
+    let index = index_of(command);
+    let (kept, next) = lower_sides(subject, draft, by, around, known, command, index)?;
+    if kept || is_own(next, index) {
+        return Ok(());
+    }
+    lower_others(subject, draft, by, around, known, command, index, next)?;
+    Ok(())
+}

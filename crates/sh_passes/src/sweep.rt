@@ -1,0 +1,756 @@
+//! A sweep of the search over the commands of a list. It lowers each command where it comes to it,
+//! before those after it (XCU 2.9).
+ghost use Rattle.std.specs.Prelude.{◌∷◌, ◌<◌, ◌≤◌, ◌-◌, ℕ, List, true, length, take, drop, IfOk};
+ghost use Rattle.sh_tree.specs.standard.Tree.{text_of};
+ghost use Rattle.sh_tree.specs.declared.tree.Item as tree;
+ghost use Rattle.sh_tree.specs.declared.tree.Link as list_link;
+ghost use Rattle.sh_tree.specs.declared.tree.Pipe as pipeline;
+ghost use Rattle.sh_tree.specs.Lists.{items_from};
+ghost use Rattle.sh_tree.specs.standard.program.Syntax as p;
+ghost use Rattle.sh_tree.specs.standard.program.Trees as trees;
+ghost use Rattle.sh_domain.specs.declared.rule.FlowRule.TheVariants.{F11, F12};
+ghost use Rattle.sh_domain.specs.Entries as entries;
+ghost use Rattle.sh_domain.specs.Entries.{items_after, kind_entered, part_around};
+ghost use Rattle.sh_domain.specs.Facts.{Facts};
+ghost use Rattle.sh_domain.specs.Knowledge.{knowledge_facts};
+ghost use Rattle.sh_domain.specs.Views.{After, Seen, without_job};
+ghost use Rattle.sh_rules.specs.Walks as walks;
+ghost use Rattle.sh_sweeps.specs.Sweeps.{AreItems, AreLinks, AreParts, ArePassed, IsAndOr, IsCommand, IsInside, IsKind, IsList, IsPart, IsPassed, IsPipe, Knows, KnowsBehind, known_behind};
+ghost use Rattle.sh_drafts.specs.Ready.{IsReady, IsSwept};
+
+use crate::bodies::{is_called_again, sweep_called};
+use crate::choices::{sweep_case, sweep_cond};
+use crate::own::{lower_behind, lower_command};
+use crate::rounds::sweep_rounds;
+use crate::words::{sweep_elements, sweep_for_words, sweep_redirections};
+use sh_domain::{FlowRule, Knowledge};
+use sh_drafts::inner::is_in_elements;
+use sh_drafts::{Draft, Subject};
+use sh_rules::{Around, Behind, Course, alone, begun, in_function, is_settled};
+use sh_sweeps::known::{
+    behind_pipe, entry_of, head_of, inside_of, pass_all, pass_link, pass_on, process_of,
+    started_in, turn_of,
+};
+use sh_sweeps::lower_before;
+use sh_tree::{AndOr, Command, Item, Kind, Link, LoopKind, Pipe, Script, Span};
+use sh_worklist::{Look, do_links_wait, does_item_wait, does_pipe_wait, next_place};
+use std::alloc::AllocError;
+
+/// How many levels are gone into: of commands, of parts of words, and of expressions in arithmetic.
+/// No script that is read has more, since of 64 levels at most each is a few of these.
+pub const LEVELS: u32 = 2048;
+
+// How many of them are gone into at most if a call is followed.
+const CALLS: u32 = 128;
+
+/// Lowers the certificate at each item of a list, and goes on after the last. So many levels are
+/// gone into; what is further in is left to turns.
+///
+/// # Errors
+///
+/// If a growth was refused or no place for a row is left.
+#[cycle(sweep)]
+pub fn sweep_items(
+    subject: &Subject<'_>,
+    draft: &mut Draft,
+    levels: u32,
+    around: &Around<'_>,
+    course: &mut Course,
+    items: &[Item],
+) -> Result<(), AllocError>
+    requires ready { IsReady subject.now draft.old.certificate draft.old.probe.count }
+    requires placed { AreItems subject.now course.old.by (walks.around subject.now.script.now around.now) (known_behind subject.now course.old.behind) items.now }
+    ensures swept { IfOk result (λ unit. IsSwept subject.now draft.old.certificate draft.new.certificate draft.new.probe.count) }
+    ensures behind { IfOk result (λ unit. (o : After) → KnowsBehind subject.now o (known_behind subject.now course.old.behind)
+        → KnowsBehind subject.now (items_after o (items_from subject.now.script.now items.now)) (known_behind subject.now course.new.behind)) }
+{
+    let mut is_new = true;
+    let mut place = 0;
+    while place < items.len() {
+        let next = pass_idle(subject, &*draft, course, is_new, items, place);
+        is_new = sweep_or_pass(subject, draft, levels, around, course, is_new, &items[next])?;
+        place = next + 1;
+    }
+    Ok(())
+}
+
+// Goes on after the items from a place on that do not wait, if nothing is new before them. Gives
+// the place of the next one.
+fn pass_idle(
+    subject: &Subject<'_>,
+    draft: &Draft,
+    course: &mut Course,
+    is_new: bool,
+    items: &[Item],
+    place: usize,
+) -> usize
+    requires ready { IsReady subject.now draft.now.certificate draft.now.probe.count }
+    requires within { place < length items.now }
+    ensures from { place ≤ result }
+    ensures there { result < length items.now }
+    ensures passed { ArePassed subject.now course.old course.new (take (result - place) (drop place items.now)) }
+{
+    if is_new {
+        return place;
+    }
+    let next = next_place(&draft.waiting, items, place);
+    pass_all(subject, &draft.certificate, course, &items[place..next]);
+    next
+}
+
+// Goes on after an item, and lowers the certificate at its commands if what is known before them is
+// new or one of them waits. Reports whether what is known after it is new: a hint.
+#[cycle(sweep)]
+fn sweep_or_pass(
+    subject: &Subject<'_>,
+    draft: &mut Draft,
+    levels: u32,
+    around: &Around<'_>,
+    course: &mut Course,
+    is_new: bool,
+    item: &Item,
+) -> Result<bool, AllocError>
+    requires ready { IsReady subject.now draft.old.certificate draft.old.probe.count }
+    requires placed { (others : List tree.Item) × AreItems subject.now course.old.by (walks.around subject.now.script.now around.now) (known_behind subject.now course.old.behind) (item.now ∷ others) }
+    ensures swept { IfOk result (λ is_new. IsSwept subject.now draft.old.certificate draft.new.certificate draft.new.probe.count) }
+    ensures passed { IfOk result (λ is_new. IsPassed subject.now course.old course.new item.now) }
+{
+    if !is_new && !does_item_wait(&draft.waiting, item) {
+        pass_on(subject, &draft.certificate, course, item);
+        return Ok(false);
+    }
+    let before = draft.lowered;
+    sweep_item(subject, draft, levels, around, course, item)?;
+    Ok(draft.lowered != before || (is_new && !is_settled(item)))
+}
+
+// Lowers the certificate at the commands of an item, and goes on after it.
+#[cycle(sweep)]
+fn sweep_item(
+    subject: &Subject<'_>,
+    draft: &mut Draft,
+    levels: u32,
+    around: &Around<'_>,
+    course: &mut Course,
+    item: &Item,
+) -> Result<(), AllocError>
+    requires ready { IsReady subject.now draft.old.certificate draft.old.probe.count }
+    requires placed { (others : List tree.Item) × AreItems subject.now course.old.by (walks.around subject.now.script.now around.now) (known_behind subject.now course.old.behind) (item.now ∷ others) }
+    ensures swept { IfOk result (λ unit. IsSwept subject.now draft.old.certificate draft.new.certificate draft.new.probe.count) }
+    ensures passed { IfOk result (λ unit. IsPassed subject.now course.old course.new item.now) }
+{
+    enter_item(subject, draft, levels, around, &*course, item)?;
+    pass_on(subject, &draft.certificate, course, item);
+    Ok(())
+}
+
+// Lowers the certificate at the commands of an item.
+#[cycle(sweep)]
+fn enter_item(
+    subject: &Subject<'_>,
+    draft: &mut Draft,
+    levels: u32,
+    around: &Around<'_>,
+    course: &Course,
+    item: &Item,
+) -> Result<(), AllocError>
+    requires ready { IsReady subject.now draft.old.certificate draft.old.probe.count }
+    requires placed { (others : List tree.Item) × AreItems subject.now course.now.by (walks.around subject.now.script.now around.now) (known_behind subject.now course.now.behind) (item.now ∷ others) }
+    ensures swept { IfOk result (λ unit. IsSwept subject.now draft.old.certificate draft.new.certificate draft.new.probe.count) }
+{
+    let seen = course.behind.in_any_case();
+    if item.background {
+        return enter_process(subject, draft, levels, &seen, &item.list);
+    }
+    sweep_and_or(subject, draft, levels, course.by, around, &seen, &item.list)
+}
+
+// Lowers the certificate at the commands of an asynchronous item, before which this is known.
+#[cycle(sweep)]
+fn enter_process(
+    subject: &Subject<'_>,
+    draft: &mut Draft,
+    levels: u32,
+    known: &Knowledge,
+    list: &AndOr,
+) -> Result<(), AllocError>
+    requires ready { IsReady subject.now draft.old.certificate draft.old.probe.count }
+    requires placed { (k : Facts) → ((q : Seen) → Knows subject.now q (knowledge_facts subject.now.names.now known.now) → Knows subject.now (without_job q) k) → IsAndOr subject.now F11 entries.alone k list.now }
+    ensures swept { IfOk result (λ unit. IsSwept subject.now draft.old.certificate draft.new.certificate draft.new.probe.count) }
+{
+    let inside = started_in(subject, &draft.certificate, known);
+    let outside = alone();
+    sweep_and_or(
+        subject,
+        draft,
+        levels,
+        FlowRule::F11,
+        &outside,
+        &inside,
+        list,
+    )
+}
+
+#[cycle(sweep)]
+fn sweep_and_or(
+    subject: &Subject<'_>,
+    draft: &mut Draft,
+    levels: u32,
+    by: FlowRule,
+    around: &Around<'_>,
+    known: &Knowledge,
+    list: &AndOr,
+) -> Result<(), AllocError>
+    requires ready { IsReady subject.now draft.old.certificate draft.old.probe.count }
+    requires placed { IsAndOr subject.now by (walks.around subject.now.script.now around.now) (knowledge_facts subject.now.names.now known.now) list.now }
+    ensures swept { IfOk result (λ unit. IsSwept subject.now draft.old.certificate draft.new.certificate draft.new.probe.count) }
+{
+    let before = draft.lowered;
+    sweep_pipe(subject, draft, levels, by, around, known, &list.first)?;
+    let links = list.rest.as_slice();
+    let is_new = draft.lowered != before || list.first.parts.as_slice().len() != 1;
+    if links.is_empty() || (!is_new && !do_links_wait(&draft.waiting, links)) {
+        return Ok(());
+    }
+    let mut behind = behind_pipe(subject, &draft.certificate, known, &list.first);
+    sweep_links(subject, draft, levels, around, &mut behind, is_new, links)
+}
+
+#[cycle(sweep)]
+fn sweep_links(
+    subject: &Subject<'_>,
+    draft: &mut Draft,
+    levels: u32,
+    around: &Around<'_>,
+    behind: &mut Behind,
+    is_new: bool,
+    links: &[(Link, Pipe)],
+) -> Result<(), AllocError>
+    requires ready { IsReady subject.now draft.old.certificate draft.old.probe.count }
+    requires placed { AreLinks subject.now (walks.around subject.now.script.now around.now) (known_behind subject.now behind.old) links.now }
+    ensures swept { IfOk result (λ unit. IsSwept subject.now draft.old.certificate draft.new.certificate draft.new.probe.count) }
+{
+    let mut is_new = is_new;
+    for link in links {
+        is_new = link_or_pass(subject, draft, levels, around, behind, is_new, link)?;
+    }
+    Ok(())
+}
+
+// As `sweep_or_pass`, of the pipeline after `&&` or `||`.
+#[cycle(sweep)]
+fn link_or_pass(
+    subject: &Subject<'_>,
+    draft: &mut Draft,
+    levels: u32,
+    around: &Around<'_>,
+    behind: &mut Behind,
+    is_new: bool,
+    link: &(Link, Pipe),
+) -> Result<bool, AllocError>
+    requires ready { IsReady subject.now draft.old.certificate draft.old.probe.count }
+    requires placed { (others : List (list_link.Link × pipeline.Pipe)) × AreLinks subject.now (walks.around subject.now.script.now around.now) (known_behind subject.now behind.old) (link.now ∷ others) }
+    ensures swept { IfOk result (λ is_new. IsSwept subject.now draft.old.certificate draft.new.certificate draft.new.probe.count) }
+    ensures passed { IfOk result (λ is_new. (others : List (list_link.Link × pipeline.Pipe))
+        → AreLinks subject.now (walks.around subject.now.script.now around.now) (known_behind subject.now behind.old) (link.now ∷ others)
+        → AreLinks subject.now (walks.around subject.now.script.now around.now) (known_behind subject.now behind.new) others) }
+{
+    if !is_new && !does_pipe_wait(&draft.waiting, &link.1) {
+        pass_link(subject, &draft.certificate, behind, link);
+        return Ok(false);
+    }
+    let before = draft.lowered;
+    sweep_link(subject, draft, levels, around, behind, link)?;
+    Ok(is_new || draft.lowered != before)
+}
+
+// Lowers the certificate at the pipeline after `&&` or `||`, and goes on after it.
+#[cycle(sweep)]
+fn sweep_link(
+    subject: &Subject<'_>,
+    draft: &mut Draft,
+    levels: u32,
+    around: &Around<'_>,
+    behind: &mut Behind,
+    link: &(Link, Pipe),
+) -> Result<(), AllocError>
+    requires ready { IsReady subject.now draft.old.certificate draft.old.probe.count }
+    requires placed { (others : List (list_link.Link × pipeline.Pipe)) × AreLinks subject.now (walks.around subject.now.script.now around.now) (known_behind subject.now behind.old) (link.now ∷ others) }
+    ensures swept { IfOk result (λ unit. IsSwept subject.now draft.old.certificate draft.new.certificate draft.new.probe.count) }
+    ensures passed { IfOk result (λ unit. (others : List (list_link.Link × pipeline.Pipe))
+        → AreLinks subject.now (walks.around subject.now.script.now around.now) (known_behind subject.now behind.old) (link.now ∷ others)
+        → AreLinks subject.now (walks.around subject.now.script.now around.now) (known_behind subject.now behind.new) others) }
+{
+    sweep_pipe(
+        subject,
+        draft,
+        levels,
+        FlowRule::F3,
+        around,
+        behind.at_link(link.0),
+        &link.1,
+    )?;
+    pass_link(subject, &draft.certificate, behind, link);
+    Ok(())
+}
+
+#[cycle(sweep)]
+fn sweep_pipe(
+    subject: &Subject<'_>,
+    draft: &mut Draft,
+    levels: u32,
+    by: FlowRule,
+    around: &Around<'_>,
+    known: &Knowledge,
+    pipe: &Pipe,
+) -> Result<(), AllocError>
+    requires ready { IsReady subject.now draft.old.certificate draft.old.probe.count }
+    requires placed { IsPipe subject.now by (walks.around subject.now.script.now around.now) (knowledge_facts subject.now.names.now known.now) pipe.now }
+    ensures swept { IfOk result (λ unit. IsSwept subject.now draft.old.certificate draft.new.certificate draft.new.probe.count) }
+{
+    let parts = pipe.parts.as_slice();
+    if parts.len() > 1 {
+        return sweep_processes(subject, draft, levels, around, known, parts);
+    }
+    sweep_parts(subject, draft, levels, by, around, known, parts)
+}
+
+// Lowers the certificate at the parts of a pipeline of two or more, before which this is known.
+#[cycle(sweep)]
+fn sweep_processes(
+    subject: &Subject<'_>,
+    draft: &mut Draft,
+    levels: u32,
+    around: &Around<'_>,
+    known: &Knowledge,
+    parts: &[Command],
+) -> Result<(), AllocError>
+    requires ready { IsReady subject.now draft.old.certificate draft.old.probe.count }
+    requires placed { (k : Facts) → ((q : Seen) → Knows subject.now q (knowledge_facts subject.now.names.now known.now) → Knows subject.now (without_job q) k) → AreParts subject.now F12 (part_around true (walks.around subject.now.script.now around.now)) k parts.now }
+    ensures swept { IfOk result (λ unit. IsSwept subject.now draft.old.certificate draft.new.certificate draft.new.probe.count) }
+{
+    let inner = around.round_parts();
+    let seen = started_in(subject, &draft.certificate, known);
+    sweep_parts(subject, draft, levels, FlowRule::F12, &inner, &seen, parts)
+}
+
+#[cycle(sweep)]
+fn sweep_parts(
+    subject: &Subject<'_>,
+    draft: &mut Draft,
+    levels: u32,
+    by: FlowRule,
+    around: &Around<'_>,
+    known: &Knowledge,
+    parts: &[Command],
+) -> Result<(), AllocError>
+    requires ready { IsReady subject.now draft.old.certificate draft.old.probe.count }
+    requires placed { AreParts subject.now by (walks.around subject.now.script.now around.now) (knowledge_facts subject.now.names.now known.now) parts.now }
+    ensures swept { IfOk result (λ unit. IsSwept subject.now draft.old.certificate draft.new.certificate draft.new.probe.count) }
+{
+    for command in parts {
+        sweep_command(subject, draft, levels, by, around, known, command)?;
+    }
+    Ok(())
+}
+
+// Lowers the certificate at a command, and in it.
+#[cycle(sweep)]
+fn sweep_command(
+    subject: &Subject<'_>,
+    draft: &mut Draft,
+    levels: u32,
+    by: FlowRule,
+    around: &Around<'_>,
+    known: &Knowledge,
+    command: &Command,
+) -> Result<(), AllocError>
+    requires ready { IsReady subject.now draft.old.certificate draft.old.probe.count }
+    requires placed { IsCommand subject.now by (walks.around subject.now.script.now around.now) (knowledge_facts subject.now.names.now known.now) command.now }
+    ensures swept { IfOk result (λ unit. IsSwept subject.now draft.old.certificate draft.new.certificate draft.new.probe.count) }
+{
+    if levels == 0 {
+        return lower_command(subject, draft, by, around, known, command);
+    }
+    let look = draft.waiting.look(command.number);
+    let outer = draft.waiting.enter_command(command.number);
+    sweep_looked(subject, draft, levels - 1, by, around, known, command, look)?;
+    draft.waiting.leave(outer);
+    Ok(())
+}
+
+// Lowers the certificate at a command that waited or not, and in it.
+#[cycle(sweep)]
+fn sweep_looked(
+    subject: &Subject<'_>,
+    draft: &mut Draft,
+    levels: u32,
+    by: FlowRule,
+    around: &Around<'_>,
+    known: &Knowledge,
+    command: &Command,
+    look: Look,
+) -> Result<(), AllocError>
+    requires ready { IsReady subject.now draft.old.certificate draft.old.probe.count }
+    requires placed { IsCommand subject.now by (walks.around subject.now.script.now around.now) (knowledge_facts subject.now.names.now known.now) command.now }
+    ensures swept { IfOk result (λ unit. IsSwept subject.now draft.old.certificate draft.new.certificate draft.new.probe.count) }
+{
+    if !known.is_reached() && !look.inner && is_simple(&command.kind) {
+        return Ok(());
+    }
+    let before = draft.lowered;
+    lower_before(subject, draft, known, command)?;
+    let is_new = look.own || draft.lowered != before;
+    if !is_new && !look.inner {
+        return Ok(());
+    }
+    if is_simple(&command.kind) {
+        sweep_simple(subject, draft, levels, by, around, known, command, is_new)
+    } else {
+        sweep_compound(subject, draft, levels, by, around, known, command, is_new)
+    }
+}
+
+// Lowers the certificate at the commands in the words of a simple command, and after it if
+// something is new. If that enters a function for the first time, or has its body go again, it goes
+// on in its bodies, and then after the command again.
+#[cycle(sweep)]
+fn sweep_simple(
+    subject: &Subject<'_>,
+    draft: &mut Draft,
+    levels: u32,
+    by: FlowRule,
+    around: &Around<'_>,
+    known: &Knowledge,
+    command: &Command,
+    is_new: bool,
+) -> Result<(), AllocError>
+    requires ready { IsReady subject.now draft.old.certificate draft.old.probe.count }
+    requires placed { IsCommand subject.now by (walks.around subject.now.script.now around.now) (knowledge_facts subject.now.names.now known.now) command.now }
+    ensures swept { IfOk result (λ unit. IsSwept subject.now draft.old.certificate draft.new.certificate draft.new.probe.count) }
+{
+    sweep_held(subject, draft, levels, around, command)?;
+    if !is_new || !known.is_reached() {
+        return Ok(());
+    }
+    let entered = draft.entered;
+    lower_behind(subject, draft, by, around, known, command)?;
+    let is_news = draft.entered != entered || is_called_again(subject, draft, command);
+    if !is_news || levels < LEVELS - CALLS {
+        return Ok(());
+    }
+    sweep_called(subject, draft, levels, command)?;
+    lower_behind(subject, draft, by, around, known, command)?;
+    Ok(())
+}
+
+// Lowers the certificate at the commands in the words of a simple command, if it holds any.
+#[cycle(sweep)]
+fn sweep_held(
+    subject: &Subject<'_>,
+    draft: &mut Draft,
+    levels: u32,
+    around: &Around<'_>,
+    command: &Command,
+) -> Result<(), AllocError>
+    requires ready { IsReady subject.now draft.old.certificate draft.old.probe.count }
+    requires placed { IsInside subject.now (walks.around subject.now.script.now around.now) command.now }
+    ensures swept { IfOk result (λ unit. IsSwept subject.now draft.old.certificate draft.new.certificate draft.new.probe.count) }
+{
+    if !is_in_elements(command.elements()) {
+        return Ok(());
+    }
+    sweep_inside(subject, draft, levels, around, command)
+}
+
+// Lowers the certificate in a compound command, and after it if something is new.
+#[cycle(sweep)]
+fn sweep_compound(
+    subject: &Subject<'_>,
+    draft: &mut Draft,
+    levels: u32,
+    by: FlowRule,
+    around: &Around<'_>,
+    known: &Knowledge,
+    command: &Command,
+    is_new: bool,
+) -> Result<(), AllocError>
+    requires ready { IsReady subject.now draft.old.certificate draft.old.probe.count }
+    requires placed { IsCommand subject.now by (walks.around subject.now.script.now around.now) (knowledge_facts subject.now.names.now known.now) command.now }
+    ensures swept { IfOk result (λ unit. IsSwept subject.now draft.old.certificate draft.new.certificate draft.new.probe.count) }
+{
+    let before = draft.lowered;
+    sweep_rounds(subject, draft, levels, by, around, known, command)?;
+    if !is_new && draft.lowered == before {
+        return Ok(());
+    }
+    lower_behind(subject, draft, by, around, known, command)?;
+    Ok(())
+}
+
+fn is_simple(kind: &Kind) -> bool {
+    matches!(kind, Kind::Simple(_))
+}
+
+/// Lowers the certificate at the commands in the redirections of a command, and at those in it.
+///
+/// # Errors
+///
+/// If a growth was refused or no place for a row is left.
+#[cycle(sweep)]
+pub fn sweep_inside(
+    subject: &Subject<'_>,
+    draft: &mut Draft,
+    levels: u32,
+    around: &Around<'_>,
+    command: &Command,
+) -> Result<(), AllocError>
+    requires ready { IsReady subject.now draft.old.certificate draft.old.probe.count }
+    requires placed { IsInside subject.now (walks.around subject.now.script.now around.now) command.now }
+    ensures swept { IfOk result (λ unit. IsSwept subject.now draft.old.certificate draft.new.certificate draft.new.probe.count) }
+{
+    let number = command.number;
+    let redirects = command.redirects.as_slice();
+    sweep_redirections(subject, draft, levels, number, redirects)?;
+    let inside = inside_of(subject, &draft.certificate, command);
+    sweep_kind(
+        subject,
+        draft,
+        levels,
+        around,
+        number,
+        &inside,
+        &command.kind,
+    )
+}
+
+#[cycle(sweep)]
+fn sweep_kind(
+    subject: &Subject<'_>,
+    draft: &mut Draft,
+    levels: u32,
+    around: &Around<'_>,
+    number: u32,
+    known: &Knowledge,
+    kind: &Kind,
+) -> Result<(), AllocError>
+    requires ready { IsReady subject.now draft.old.certificate draft.old.probe.count }
+    requires placed { IsKind subject.now (walks.around subject.now.script.now around.now) number (knowledge_facts subject.now.names.now known.now) kind.now }
+    ensures swept { IfOk result (λ unit. IsSwept subject.now draft.old.certificate draft.new.certificate draft.new.probe.count) }
+{
+    match kind {
+        Kind::Simple(elements) => {
+            sweep_elements(subject, draft, levels, known, elements.as_slice())
+        }
+        Kind::Group(list) => {
+            sweep_list(subject, draft, levels, around, FlowRule::F10, known, list)
+        }
+        Kind::Subshell(list) => sweep_subshell(subject, draft, levels, number, list),
+        // A body is a unit of its own.
+        Kind::Define { .. } => Ok(()),
+        _ => sweep_conditional(subject, draft, levels, around, number, known, kind),
+    }
+}
+
+// Lowers the certificate at what is in `if` or `case`, or in a loop.
+#[cycle(sweep)]
+fn sweep_conditional(
+    subject: &Subject<'_>,
+    draft: &mut Draft,
+    levels: u32,
+    around: &Around<'_>,
+    number: u32,
+    known: &Knowledge,
+    kind: &Kind,
+) -> Result<(), AllocError>
+    requires ready { IsReady subject.now draft.old.certificate draft.old.probe.count }
+    requires placed { IsKind subject.now (walks.around subject.now.script.now around.now) number (knowledge_facts subject.now.names.now known.now) kind.now }
+    ensures swept { IfOk result (λ unit. IsSwept subject.now draft.old.certificate draft.new.certificate draft.new.probe.count) }
+{
+    match kind {
+        Kind::Cond {
+            branches,
+            otherwise,
+        } => {
+            let branches = branches.as_slice();
+            sweep_cond(subject, draft, levels, around, known, branches, otherwise)
+        }
+        Kind::Branches { word, clauses } => {
+            let clauses = clauses.as_slice();
+            sweep_case(subject, draft, levels, around, known, word, clauses)
+        }
+        _ => sweep_iteration(subject, draft, levels, around, number, known, kind),
+    }
+}
+
+// Lowers the certificate at what is in a loop.
+#[cycle(sweep)]
+fn sweep_iteration(
+    subject: &Subject<'_>,
+    draft: &mut Draft,
+    levels: u32,
+    around: &Around<'_>,
+    number: u32,
+    known: &Knowledge,
+    kind: &Kind,
+) -> Result<(), AllocError>
+    requires ready { IsReady subject.now draft.old.certificate draft.old.probe.count }
+    requires placed { IsKind subject.now (walks.around subject.now.script.now around.now) number (knowledge_facts subject.now.names.now known.now) kind.now }
+    ensures swept { IfOk result (λ unit. IsSwept subject.now draft.old.certificate draft.new.certificate draft.new.probe.count) }
+{
+    match kind {
+        Kind::Loop {
+            kind,
+            condition,
+            body,
+        } => sweep_loop(
+            subject, draft, levels, around, number, *kind, condition, body,
+        ),
+        Kind::For { name, words, body } => {
+            sweep_for_words(subject, draft, levels, known, words)?;
+            sweep_for(subject, draft, levels, around, number, *name, body)
+        }
+        Kind::Simple(_)
+        | Kind::Group(_)
+        | Kind::Subshell(_)
+        | Kind::Cond { .. }
+        | Kind::Branches { .. }
+        | Kind::Define { .. } => Ok(()),
+    }
+}
+
+/// Lowers the certificate at a list that a rule enters, with this known.
+///
+/// # Errors
+///
+/// If a growth was refused or no place for a row is left.
+#[cycle(sweep)]
+pub fn sweep_list(
+    subject: &Subject<'_>,
+    draft: &mut Draft,
+    levels: u32,
+    around: &Around<'_>,
+    by: FlowRule,
+    known: &Knowledge,
+    list: &Script,
+) -> Result<(), AllocError>
+    requires ready { IsReady subject.now draft.old.certificate draft.old.probe.count }
+    requires placed { IsList subject.now by (walks.around subject.now.script.now around.now) (knowledge_facts subject.now.names.now known.now) (trees.script_of subject.now.script.now list.now) }
+    ensures swept { IfOk result (λ unit. IsSwept subject.now draft.old.certificate draft.new.certificate draft.new.probe.count) }
+{
+    let mut course = begun(by, known);
+    sweep_items(
+        subject,
+        draft,
+        levels,
+        around,
+        &mut course,
+        list.items.as_slice(),
+    )
+}
+
+#[cycle(sweep)]
+fn sweep_subshell(
+    subject: &Subject<'_>,
+    draft: &mut Draft,
+    levels: u32,
+    number: u32,
+    list: &Script,
+) -> Result<(), AllocError>
+    requires ready { IsReady subject.now draft.old.certificate draft.old.probe.count }
+    requires placed { (y : entries.Around) × (q : Seen) × IsPart subject.now (kind_entered y number q (p.Subshell (trees.script_of subject.now.script.now list.now))) }
+    ensures swept { IfOk result (λ unit. IsSwept subject.now draft.old.certificate draft.new.certificate draft.new.probe.count) }
+{
+    let outside = alone();
+    let known = process_of(subject, &draft.certificate, number);
+    sweep_list(
+        subject,
+        draft,
+        levels,
+        &outside,
+        FlowRule::F11,
+        &known,
+        list,
+    )
+}
+
+/// Lowers the certificate in the body of a function.
+///
+/// # Errors
+///
+/// If a growth was refused or no place for a row is left.
+#[cycle(sweep)]
+pub fn sweep_definition(
+    subject: &Subject<'_>,
+    draft: &mut Draft,
+    levels: u32,
+    name: Span,
+    body: &Command,
+) -> Result<(), AllocError>
+    requires ready { IsReady subject.now draft.old.certificate draft.old.probe.count }
+    requires placed { (y : entries.Around) × (n : ℕ) × (q : Seen) × IsPart subject.now (kind_entered y n q (p.Define (text_of subject.now.script.now name) (trees.command_of subject.now.script.now body.now))) }
+    ensures swept { IfOk result (λ unit. IsSwept subject.now draft.old.certificate draft.new.certificate draft.new.probe.count) }
+{
+    let inner = in_function(name);
+    let known = entry_of(subject, &draft.certificate, name);
+    sweep_command(subject, draft, levels, FlowRule::F13, &inner, &known, body)
+}
+
+#[cycle(sweep)]
+fn sweep_loop(
+    subject: &Subject<'_>,
+    draft: &mut Draft,
+    levels: u32,
+    around: &Around<'_>,
+    number: u32,
+    kind: LoopKind,
+    condition: &Script,
+    body: &Script,
+) -> Result<(), AllocError>
+    requires ready { IsReady subject.now draft.old.certificate draft.old.probe.count }
+    requires placed { (q : Seen) × IsPart subject.now (kind_entered (walks.around subject.now.script.now around.now) number q
+        (p.Loop kind (trees.script_of subject.now.script.now condition.now) (trees.script_of subject.now.script.now body.now))) }
+    ensures swept { IfOk result (λ unit. IsSwept subject.now draft.old.certificate draft.new.certificate draft.new.probe.count) }
+{
+    let inner = (&*around).in_loop(number);
+    let head = head_of(subject, &draft.certificate, number);
+    let mut course = begun(FlowRule::F7, &head);
+    sweep_items(
+        subject,
+        draft,
+        levels,
+        &inner,
+        &mut course,
+        condition.items.as_slice(),
+    )?;
+    sweep_list(
+        subject,
+        draft,
+        levels,
+        &inner,
+        FlowRule::F7,
+        course.behind.at_turn(kind),
+        body,
+    )?;
+    Ok(())
+}
+
+#[cycle(sweep)]
+fn sweep_for(
+    subject: &Subject<'_>,
+    draft: &mut Draft,
+    levels: u32,
+    around: &Around<'_>,
+    number: u32,
+    name: Span,
+    body: &Script,
+) -> Result<(), AllocError>
+    requires ready { IsReady subject.now draft.old.certificate draft.old.probe.count }
+    requires placed { (q : Seen) × (ws : p.ForWords) × IsPart subject.now (kind_entered (walks.around subject.now.script.now around.now) number q
+        (p.For (text_of subject.now.script.now name) ws (trees.script_of subject.now.script.now body.now))) }
+    ensures swept { IfOk result (λ unit. IsSwept subject.now draft.old.certificate draft.new.certificate draft.new.probe.count) }
+{
+    let inner = (&*around).in_loop(number);
+    let turn = turn_of(subject, &draft.certificate, number, name);
+    sweep_list(subject, draft, levels, &inner, FlowRule::F8, &turn, body)
+}

@@ -1,8 +1,0 @@
-use Rattle.sh_drafts.proofs.ReadyLemmas.{ready_again, swept_more}
-use Rattle.sh_sweeps.proofs.own.lower_others.Goals as goal
-
-pub lower_once-requires-2-clause-ready : goal.lower_once-requires-2-clause-ready
-lower_once-requires-2-clause-ready c = ready_again c.args.subject.now _ _ _ _ c.requires.ready c.in_ok-kept.ensures.swept
-
-pub returns : goal.returns
-returns c = record { swept = swept_more c.args.subject.now _ _ _ _ _ c.in_ok-kept.ensures.swept c.in_ok-lower_once.ensures.swept }
