@@ -1,3 +1,2 @@
 pub mod GreatestLemmas
 pub mod FillLemmas
-pub mod CountLemmas

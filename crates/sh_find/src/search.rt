@@ -13,8 +13,6 @@ ghost use Rattle.sh_drafts.specs.Ready.{IsReady, IsSettled, IsSwept};
 ghost use Rattle.sh_drafts.specs.Turns.{sheet_by};
 ghost use Rattle.sh_drafts.specs.Working.{IsWorking};
 
-use crate::counts::solve_counts;
-use crate::turn::turn;
 use indexmap::IndexMap;
 use sh_domain::{Certificate, Compact, Facts, Names, Policy, Rows};
 use sh_drafts::{Draft, Subject, Target, Writable, rest_after, unreached};
@@ -22,6 +20,7 @@ use sh_passes::{sweep_by_rounds, sweep_round, sweep_waiting};
 use sh_rows::{BitRow, Row};
 use sh_table::CallTable;
 use sh_tree::{Script, commands};
+use sh_turns::{solve_counts, turn};
 use sh_worklist::Waiting;
 use std::alloc::{AllocError, Global};
 

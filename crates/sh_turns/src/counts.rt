@@ -1,0 +1,236 @@
+//! The counts of positional parameters are solved apart from the sets of names (XCU 2.5.1).
+ghost use Rattle.std.specs.Prelude.{◌≡◌, ℕ, true, false, length, get_or, Option, Some, None, IfOk, IfSome};
+ghost use Rattle.sh_domain.specs.Facts as domain;
+ghost use Rattle.sh_domain.specs.Knowledge.{AreNumbered};
+ghost use Rattle.sh_domain.specs.Order.{IsWithin};
+ghost use Rattle.sh_domain.specs.Reading.{claim_fits};
+ghost use Rattle.sh_counts.specs.Equations.{worth};
+ghost use Rattle.sh_tally.specs.Counts.{HasAtMost};
+ghost use Rattle.sh_turns.specs.Counts as spec;
+ghost use Rattle.sh_turns.specs.Counts.{AreClaimed, AreOverAll, HasAtMostThere, count_place};
+ghost use Rattle.sh_drafts.specs.Kept.{IsNamed, sight_facts};
+ghost use Rattle.sh_drafts.specs.Numbers.{by_name};
+ghost use Rattle.sh_drafts.specs.Ready.{IsReady, IsSwept};
+
+use sh_domain::{Certificate, Facts, Names, NumberSet};
+use sh_drafts::kept::facts_at;
+use sh_drafts::lower::lower;
+use sh_drafts::{Draft, Part, Place, Sight, Subject, fitting, note_place};
+use sh_tally::{Places, Tally};
+use std::alloc::{AllocError, Global};
+
+// How many counts each number has: four of the command, and three of the function.
+const PARTS: usize = 7;
+
+// The part of a command or of a function by its rank.
+#[tactic(auto, unfolding(crate::specs::Counts::part_by))]
+fn part_by(rank: usize) -> Part
+    ensures { result ≡ spec.part_by rank }
+{
+    match rank {
+        0 => Part::Before,
+        1 => Part::Zero,
+        2 => Part::Nonzero,
+        3 => Part::Head,
+        4 => Part::Entered,
+        5 => Part::ReturnZero,
+        _ => Part::ReturnNonzero,
+    }
+}
+
+// The index of a command or of a function by its number: commands have numbers from 1.
+#[tactic(auto, unfolding(crate::specs::Counts::index_by))]
+fn index_by(part: Part, number: usize) -> usize
+    ensures { result ≡ spec.index_by part number }
+{
+    match part {
+        Part::Before => number.saturating_sub(1),
+        Part::Zero => number.saturating_sub(1),
+        Part::Nonzero => number.saturating_sub(1),
+        Part::Head => number.saturating_sub(1),
+        Part::Entered => number,
+        Part::ReturnZero => number,
+        Part::ReturnNonzero => number,
+    }
+}
+
+// The place of a count, if a script may have a command or a function of its number.
+#[tactic(auto, unfolding(sh_drafts::specs::Gathered::fitting))]
+fn place_of_count(count: usize) -> Option<Place>
+    ensures { IfSome result (λ place. place ≡ count_place count) }
+{
+    let part = part_by(count % PARTS);
+    let index = fitting(index_by(part, count / PARTS))?;
+    Some(Place { part, index })
+}
+
+// How many parameters are claimed at a place, if any run comes there.
+#[tactic(auto, unfolding(crate::specs::Counts::args_of))]
+fn args_at(certificate: &Certificate, place: Place) -> Option<u16>
+    ensures { result ≡ spec.args_at certificate.now place }
+{
+    match facts_at(certificate, place)? {
+        Facts::NotReached => None,
+        Facts::Known { args, .. } => Some(args),
+    }
+}
+
+// How many are claimed at the place of a count.
+fn claimed_count(certificate: &Certificate, count: usize) -> Option<u16>
+    ensures { IfSome result (λ args. spec.args_at certificate.now (count_place count) ≡ Some args) }
+{
+    let place = place_of_count(count)?;
+    args_at(certificate, place)
+}
+
+// The counts that are claimed.
+fn counts_of(alloc: Global, certificate: &Certificate) -> Result<Vec<Option<u16>>, AllocError>
+    ensures { IfOk result (λ counts. AreClaimed certificate.now counts.items) }
+{
+    let commands = certificate.entries.len().saturating_add(1);
+    let numbers = commands.max(certificate.functions.len());
+    let mut counts = Vec::new(alloc);
+    for count in 0..numbers.saturating_mul(PARTS) {
+        counts.push(claimed_count(certificate, count))?;
+    }
+    Ok(counts)
+}
+
+// All names, and so many parameters.
+fn with_args(names: &Names, args: u16) -> Sight
+    requires { AreNumbered names.now }
+    ensures named { IsNamed (length names.now) (sight_facts result) }
+    ensures over { (c : domain.Claim) → claim_fits names.now c ≡ true → HasAtMost args (domain.facts c) → IsWithin (domain.facts c) (by_name names.now (sight_facts result)) }
+{
+    let all = NumberSet::below(names.count());
+    Sight {
+        vars: all,
+        functions: all,
+        args,
+    }
+}
+
+// Lowers the count at a place.
+fn lower_count(
+    subject: &Subject<'_>,
+    draft: &mut Draft,
+    place: Place,
+    args: u16,
+) -> Result<(), AllocError>
+    requires ready { IsReady subject.now draft.old.certificate draft.old.probe.count }
+    requires free { subject.now.stated ≡ false }
+    requires over { HasAtMostThere subject.now args place }
+    ensures { IfOk result (λ unit. IsSwept subject.now draft.old.certificate draft.new.certificate draft.new.probe.count) }
+{
+    let known = with_args(subject.names, args);
+    let is_lowered = lower(
+        subject.names,
+        subject.writable,
+        &mut draft.certificate,
+        &mut draft.probe,
+        place,
+        &known,
+    )?;
+    note_place(subject, draft, place, None, is_lowered)?;
+    Ok(())
+}
+
+// The count that is claimed, if a run comes to its place.
+fn claim_at(claimed: &[Option<u16>], count: usize) -> Option<u16>
+    ensures { result ≡ get_or claimed.now count None }
+{
+    match claimed.get(count) {
+        Some(args) => *args,
+        None => None,
+    }
+}
+
+// The count that solves the equations. One that is not there is not bounded.
+fn solved_at(counts: &[u16], count: usize) -> u16
+    ensures { result ≡ worth counts.now count }
+{
+    match counts.get(count) {
+        Some(args) => *args,
+        None => u16::MAX,
+    }
+}
+
+// Lowers a count, if a run comes to its place.
+fn lower_claimed(
+    subject: &Subject<'_>,
+    draft: &mut Draft,
+    claimed: &[Option<u16>],
+    counts: &[u16],
+    count: usize,
+) -> Result<(), AllocError>
+    requires ready { IsReady subject.now draft.old.certificate draft.old.probe.count }
+    requires free { subject.now.stated ≡ false }
+    requires over { (a : ℕ) → get_or claimed.now count None ≡ Some a → HasAtMostThere subject.now (worth counts.now count) (count_place count) }
+    ensures { IfOk result (λ unit. IsSwept subject.now draft.old.certificate draft.new.certificate draft.new.probe.count) }
+{
+    let Some(_args) = claim_at(claimed, count) else {
+        return Ok(());
+    };
+    let Some(place) = place_of_count(count) else {
+        return Ok(());
+    };
+    let args = solved_at(counts, count);
+    lower_count(subject, draft, place, args)
+}
+
+// Lowers each count that is claimed to the one that solves the equations.
+fn lower_all(
+    subject: &Subject<'_>,
+    draft: &mut Draft,
+    claimed: &[Option<u16>],
+    counts: &[u16],
+) -> Result<(), AllocError>
+    requires ready { IsReady subject.now draft.old.certificate draft.old.probe.count }
+    requires free { subject.now.stated ≡ false }
+    requires over { AreOverAll subject.now claimed.now counts.now }
+    ensures { IfOk result (λ unit. IsSwept subject.now draft.old.certificate draft.new.certificate draft.new.probe.count) }
+{
+    for count in 0..claimed.len() {
+        lower_claimed(subject, draft, claimed, counts, count)?;
+    }
+    Ok(())
+}
+
+// The counts that solve the equations of a script. No certificate that keeps the rules claims a
+// greater one at such a place.
+fn solved(
+    alloc: Global,
+    subject: &Subject<'_>,
+    certificate: &Certificate,
+    claimed: &[Option<u16>],
+) -> Result<Vec<u16>, AllocError>
+    requires ready { (probed : ℕ) × IsReady subject.now certificate.now probed }
+    requires free { subject.now.stated ≡ false }
+    requires claimed { AreClaimed certificate.now claimed.now }
+    ensures { IfOk result (λ counts. AreOverAll subject.now claimed.now counts.items) }
+{
+    let tally = Tally {
+        script: subject.script,
+        table: subject.table,
+        places: Places { counts: claimed },
+    };
+    tally.lowered(alloc, subject.tree)
+}
+
+/// Lowers the count at each place to the greatest that the equations of the script allow. The sets
+/// of names stay. If a compact certificate states claims, it lowers nothing.
+///
+/// # Errors
+///
+/// If a growth was refused or no place for a row is left.
+pub fn solve_counts(subject: &Subject<'_>, draft: &mut Draft) -> Result<(), AllocError>
+    requires { IsReady subject.now draft.old.certificate draft.old.probe.count }
+    ensures { IfOk result (λ unit. IsSwept subject.now draft.old.certificate draft.new.certificate draft.new.probe.count) }
+{
+    if subject.stated {
+        return Ok(());
+    }
+    let claimed = counts_of(draft.alloc, &draft.certificate)?;
+    let counts = solved(draft.alloc, subject, &draft.certificate, claimed.as_slice())?;
+    lower_all(subject, draft, claimed.as_slice(), counts.as_slice())
+}
