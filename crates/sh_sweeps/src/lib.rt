@@ -1,4 +1,4 @@
-//! What sweeps over a script stand on: what is known where a command is entered, and what the flow
+//! What sweeps over a script need: what is known where a command is entered, and what the flow
 //! rules ask, as it is gathered and lowered.
 #![tactic(auto)]
 
