@@ -7,6 +7,7 @@ mod asked;
 mod behind;
 mod claims;
 mod course;
+pub mod elements;
 mod fault;
 mod gains;
 pub mod laws;

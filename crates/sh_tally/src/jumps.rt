@@ -20,7 +20,7 @@ use sh_counts::{Change, Equations};
 use sh_rules::Around;
 use sh_table::WordText;
 use sh_tree::Element;
-use sh_visits::{first_number, jump_loop};
+use sh_utilities::{first_number, jump_loop};
 use std::alloc::AllocError;
 
 // The loop that a jump goes to, if its operand is known. The greatest number means each greater

@@ -25,7 +25,7 @@ use sh_operands::{count_behind, positional_at};
 use sh_rules::Around;
 use sh_table::{Kind, WordText, kind_of};
 use sh_tree::{Element, KnownName};
-use sh_visits::{behind_name, first_number};
+use sh_utilities::{behind_name, first_number};
 use std::alloc::AllocError;
 
 // The words after the name of a simple command become the parameters, except the first so many.

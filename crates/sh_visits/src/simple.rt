@@ -10,15 +10,13 @@ ghost use Rattle.sh_rules.specs.TextTells as spec;
 ghost use Rattle.sh_rules.specs.Walks as walks;
 ghost use Rattle.sh_rules.specs.Walks.{facts_in, setting};
 
-use crate::bounds::{tell_both, tell_leaves};
-use crate::calls::tell_call;
-use crate::elements::behind;
-use crate::jumps::tell_jumps;
-use crate::utilities::{nameless_behind, settled, utility_behind};
+use sh_compounds::{tell_both, tell_leaves};
 use sh_domain::{FlowRule, Knowledge};
+use sh_rules::elements::behind;
 use sh_rules::{Around, Asked, Claims, Fault};
 use sh_table::{Kind, WordText, kind_of};
 use sh_tree::Element;
+use sh_utilities::{nameless_behind, settled, tell_call, tell_jumps, utility_behind};
 
 // Whether a utility of this kind leaves what is known after its words, and does not jump.
 #[tactic(auto, unfolding(sh_rules::specs::TextTells::is_neutral))]
