@@ -6,7 +6,7 @@ use sh_facts::{compact_of, read_any, start_of, write_certificate, write_compact}
 use sh_find::{find, find_by_rounds, find_counted};
 use sh_flow::certified;
 use sh_judged::Prepared;
-use sh_tree::Refusal;
+use sh_tree::{MAX_NAMES, Refusal};
 use std::alloc::{AllocError, Global};
 
 /// How many commands a script has, and how often the search went through the rules of one.
@@ -93,7 +93,7 @@ fn form_of(
     names: &Names,
     policy: &Policy,
 ) -> Result<Vec<u8>, AllocError> {
-    if certificate.entries.len() > 65_535 || certificate.rows.count() > 4_096 {
+    if certificate.entries.len() > 65_535 || certificate.rows.count() as usize > MAX_NAMES {
         return Ok(Vec::new(alloc));
     }
     let compact = compact_of(alloc, certificate, &start_of(names, policy))?;
