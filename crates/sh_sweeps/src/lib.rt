@@ -11,6 +11,7 @@ mod known;
 pub mod laws;
 mod lower;
 mod own;
+mod plain;
 mod rounds;
 mod sides;
 mod slots;
