@@ -1,4 +1,5 @@
 //! A certificate that is lowered.
+ghost use Rattle.std.specs.Prelude.{◌≡◌};
 
 use sh_domain::Certificate;
 use sh_rows::BitRow;
@@ -19,8 +20,12 @@ pub struct Draft {
     pub counted: u64,
     /// If counts fell more often than this, they are solved apart: a hint.
     pub rest: u64,
-    /// How often the flow rules of a command were gone through so far: nothing depends on it.
+    /// Whether the last that fell was a count of parameters alone: a hint.
+    pub is_count: bool,
+    /// How often the flow rules of a command were gone through so far: a hint.
     pub looks: u64,
+    /// After more looks than this, what is known is carried over utilities: a hint.
+    pub patience: u64,
     /// How many of the looks were at bodies that a call had gone over again: a hint.
     pub again: u64,
     /// How often a function was entered so far that had not been: a hint.
@@ -30,19 +35,48 @@ pub struct Draft {
 }
 
 // How often counts fall for each command until they are solved apart.
-const TIMES: u64 = 4;
+const FALLS: u64 = 4;
+
+// How many looks there are for each command until what is known is carried over utilities.
+const LOOKS: u64 = 8;
+
+// So often more for each of so many commands.
+fn after(so_far: u64, commands: usize, times: u64) -> u64 {
+    let more = (commands as u64).saturating_add(8).saturating_mul(times);
+    so_far.saturating_add(more)
+}
 
 /// How often the counts of so many commands may fall until they are solved apart, if they fell so
 /// often so far: a hint.
 pub fn rest_after(counted: u64, commands: usize) -> u64 {
-    let times = (commands as u64).saturating_add(8).saturating_mul(TIMES);
-    counted.saturating_add(times)
+    after(counted, commands, FALLS)
+}
+
+/// How many looks there may be at so many commands until what is known is carried over utilities,
+/// if there were so many so far: a hint.
+pub fn patience_after(looks: u64, commands: usize) -> u64 {
+    after(looks, commands, LOOKS)
 }
 
 impl Draft {
     /// Whether the counts fell so often that they are to be solved apart: a hint.
     pub fn is_tired(&self) -> bool {
         self.counted > self.rest
+    }
+
+    /// Whether sweeps carry what is known over utilities that leave it, and lower nothing there: a
+    /// hint.
+    pub fn carries(&self) -> bool {
+        self.looks > self.patience
+    }
+
+    /// Notes that what is known was carried over a utility.
+    pub fn note_carried(&mut self)
+        ensures certificate { self.new.certificate ≡ self.old.certificate }
+        ensures probe { self.new.probe ≡ self.old.probe }
+    {
+        self.looks = self.looks.saturating_add(1);
+        self.counted = self.counted.saturating_add(u64::from(self.is_count));
     }
 
     /// Whether a call goes over a body of the function at once, though a pass over it has ended: a

@@ -69,6 +69,7 @@ pub fn note_place(
     let now = facts_at(&draft.certificate, place);
     let is_count = now != before && rows_of(now) == rows_of(before);
     draft.counted = draft.counted.saturating_add(u64::from(is_count));
+    draft.is_count = is_count;
     wake_place(subject, &mut draft.waiting, place)
 }
 

@@ -51,6 +51,8 @@ fn filled(alloc: Global, subject: &Subject<'_>) -> Result<Certificate, AllocErro
         counted: 0,
         rest: 0,
         looks: 0,
+        is_count: false,
+        patience: u64::MAX,
         again: 0,
         entered: 0,
         waiting: Waiting::all(alloc, subject.table)?,

@@ -15,7 +15,7 @@ ghost use Rattle.sh_drafts.specs.Working.{IsWorking};
 
 use indexmap::IndexMap;
 use sh_domain::{Certificate, Compact, Facts, Names, Policy, Rows};
-use sh_drafts::{Draft, Subject, Target, Writable, rest_after, unreached};
+use sh_drafts::{Draft, Subject, Target, Writable, patience_after, rest_after, unreached};
 use sh_passes::{sweep_by_rounds, sweep_round, sweep_waiting};
 use sh_rows::{BitRow, Row};
 use sh_table::CallTable;
@@ -35,19 +35,32 @@ pub enum Way {
     Once,
 }
 
+// Solves the counts apart, if they fell often.
+fn rest_counts(subject: &Subject<'_>, draft: &mut Draft) -> Result<(), AllocError>
+    requires { IsReady subject.now draft.old.certificate draft.old.probe.count }
+    ensures { IfOk result (λ unit. IsSwept subject.now draft.old.certificate draft.new.certificate draft.new.probe.count) }
+{
+    if draft.is_tired() {
+        solve_counts(subject, draft)?;
+        draft.rest = rest_after(draft.counted, subject.commands.len());
+    }
+    Ok(())
+}
+
 // Sweeps over the commands that wait. If that lowers the certificate often, it solves the counts
-// apart and sweeps again.
+// apart, or lowers what it was carried over, and sweeps again.
 fn sweep_by_need(subject: &Subject<'_>, draft: &mut Draft) -> Result<(), AllocError>
     requires { IsReady subject.now draft.old.certificate draft.old.probe.count }
     ensures { IfOk result (λ unit. IsSwept subject.now draft.old.certificate draft.new.certificate draft.new.probe.count) }
 {
     for _time in 0..u32::MAX {
+        let before = draft.lowered;
+        draft.patience = patience_after(draft.looks, subject.commands.len());
         sweep_waiting(subject, draft)?;
-        if !draft.is_tired() {
+        if draft.lowered == before || !(draft.is_tired() || draft.carries()) {
             return Ok(());
         }
-        solve_counts(subject, draft)?;
-        draft.rest = rest_after(draft.counted, subject.commands.len());
+        rest_counts(subject, draft)?;
         draft.waiting.wait_all();
     }
     Ok(())
@@ -118,6 +131,8 @@ fn settled(alloc: Global, subject: &Subject<'_>, way: Way) -> Result<(Certificat
         counted: 0,
         rest: rest_after(0, subject.commands.len()),
         looks: 0,
+        is_count: false,
+        patience: u64::MAX,
         again: 0,
         entered: 0,
         waiting: Waiting::all(alloc, subject.table)?,

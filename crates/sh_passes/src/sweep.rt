@@ -31,7 +31,7 @@ use sh_sweeps::known::{
     behind_pipe, entry_of, head_of, inside_of, pass_all, pass_link, pass_on, process_of,
     started_in, turn_of,
 };
-use sh_sweeps::lower_before;
+use sh_sweeps::{carried, carry_on, lower_before};
 use sh_tree::{AndOr, Command, Item, Kind, Link, LoopKind, Pipe, Script, Span};
 use sh_worklist::{Look, do_links_wait, does_item_wait, does_pipe_wait, next_place};
 use std::alloc::AllocError;
@@ -68,8 +68,12 @@ pub fn sweep_items(
     let mut place = 0;
     while place < items.len() {
         let next = pass_idle(subject, &*draft, course, is_new, items, place);
-        is_new = sweep_or_pass(subject, draft, levels, around, course, is_new, &items[next])?;
         place = next + 1;
+        let is_last = place == items.len();
+        let item = &items[next];
+        is_new = sweep_or_pass(
+            subject, draft, levels, around, course, is_new, is_last, item,
+        )?;
     }
     Ok(())
 }
@@ -99,7 +103,8 @@ fn pass_idle(
 }
 
 // Goes on after an item, and lowers the certificate at its commands if what is known before them is
-// new or one of them waits. Reports whether what is known after it is new: a hint.
+// new or one of them waits. It lowers nothing at a utility over which what is known is carried.
+// Reports whether what is known after it is new: a hint.
 #[cycle(sweep)]
 fn sweep_or_pass(
     subject: &Subject<'_>,
@@ -108,6 +113,7 @@ fn sweep_or_pass(
     around: &Around<'_>,
     course: &mut Course,
     is_new: bool,
+    is_last: bool,
     item: &Item,
 ) -> Result<bool, AllocError>
     requires ready { IsReady subject.now draft.old.certificate draft.old.probe.count }
@@ -118,6 +124,11 @@ fn sweep_or_pass(
     if !is_new && !does_item_wait(&draft.waiting, item) {
         pass_on(subject, &draft.certificate, course, item);
         return Ok(false);
+    }
+    if let Some(command) = carried(subject, &*draft, is_last, item) {
+        carry_on(subject, &draft.certificate, course, item, command);
+        draft.note_carried();
+        return Ok(true);
     }
     let before = draft.lowered;
     sweep_item(subject, draft, levels, around, course, item)?;

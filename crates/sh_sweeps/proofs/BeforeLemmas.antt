@@ -8,7 +8,7 @@ use Rattle.sh_tree.specs.standard.program.Trees as trees
 use Rattle.sh_tree.proofs.ProgramRules as rules
 use Rattle.sh_domain.specs.Filled.{is_stated}
 use Rattle.sh_domain.specs.declared.rule.FlowRule.{FlowRule}
-use Rattle.sh_domain.specs.declared.rule.FlowRule.TheVariants.{F13}
+use Rattle.sh_domain.specs.declared.rule.FlowRule.TheVariants.{F4, F13}
 use Rattle.sh_domain.specs.Entries.{Around, Entered, behind_redirects, command_entered}
 use Rattle.sh_domain.specs.Facts.{Facts, facts}
 use Rattle.sh_domain.specs.Faults.{broken}
@@ -19,11 +19,15 @@ use Rattle.sh_domain.specs.Reading.{claim_fits}
 use Rattle.sh_domain.specs.Rules as r
 use Rattle.sh_domain.specs.Rules.{Constraint, bound, bounds, losses}
 use Rattle.sh_domain.specs.Sheets.{Sheet}
+use Rattle.sh_domain.specs.Table.{Utility, after_utility, behind_words, manner}
+use Rattle.sh_table.specs.declared.kind.Kind.TheVariants as kind
+use Rattle.sh_tree.specs.Lists.{elements_from, redirects_from}
+use Rattle.sh_tree.specs.standard.Words.{elements_of}
 use Rattle.sh_domain.specs.Views as views
 use Rattle.sh_domain.specs.Views.{AfterNonzero, AfterZero, Certificate, ReturnsNonzero, ReturnsZero, Seen, Slot, view_facts}
 use Rattle.sh_domain.proofs.EachLemmas.{each_parts}
 use Rattle.sh_domain.proofs.MonotoneLemmas.{told_none}
-use Rattle.sh_domain.proofs.OrderLemmas.{meet_greatest, within_nowhere, within_test, within_through}
+use Rattle.sh_domain.proofs.OrderLemmas.{meet_first, meet_greatest, within_nowhere, within_test, within_through}
 use Rattle.sh_rules.specs.Meaning.{sees}
 use Rattle.sh_rules.proofs.AboveLemmas.{among_grows}
 use Rattle.sh_domain.specs.Admitted.{IsAdmitted, claims_in, functions_in}
@@ -35,6 +39,7 @@ use Rattle.sh_drafts.specs.Gathered.{fitting, fitting_place}
 use Rattle.sh_drafts.specs.Places.{at, claim_there, place_of}
 use Rattle.sh_drafts.specs.Spots.{place_at}
 use Rattle.sh_drafts.specs.Stated.{is_asked, is_free}
+use Rattle.sh_sweeps.specs.Plain.{IsPlain}
 use Rattle.sh_sweeps.specs.Sweeps.{IsCommand, IsPart, Knows}
 use Rattle.sh_drafts.specs.Ready.{Keeps}
 use Rattle.sh_drafts.specs.Starts.{start_of}
@@ -85,6 +90,27 @@ module _ (stated : Bool) (d : Facts) (c : Certificate) where
       → IsWithin (facts (c.claim (views.Before n))) (seen_facts d c q)
   own_within functions n offset kind rs by y q none = entered_within (views.Before n) n by q (free_before stated n) (parts_of functions n offset kind rs by y q none).0
 
+  -- after a utility that leaves what is known after its words
+  free_after : (n : ℕ) → (is_free stated (AfterZero n) ≡ true) × (is_free stated (AfterNonzero n) ≡ true)
+  unfolding is_free is_stated
+  free_after n = go stated
+    where
+      go : (b : Bool) → (is_free b (AfterZero n) ≡ true) × (is_free b (AfterNonzero n) ≡ true)
+      go true = (refl, refl)
+      go false = (refl, refl)
+
+  utility_within : (functions : List Text) (y : Around) (n : ℕ) (q : Seen) (es : p.Elements) (ws : List p.Word) → manner functions es ≡ Utility kind.Utility ws
+      → Each Unbroken (r.kind_bounds functions y n q (p.Simple es))
+      → IsWithin (facts (c.claim (AfterZero n))) (seen_facts d c (behind_words es (views.at (views.Before n)))) × IsWithin (facts (c.claim (AfterNonzero n))) (seen_facts d c (behind_words es (views.at (views.Before n))))
+  unfolding r.kind_bounds r.simple_bounds after_utility r.jumps views.if_zero views.if_nonzero
+  utility_within functions y n q es ws named all =
+      let seen : Seen = behind_words es (views.at (views.Before n)) in
+      let zero : List Constraint = bound (AfterZero n) n F4 seen in
+      let nonzero : List Constraint = bound (AfterNonzero n) n F4 seen in
+      let told : Each Unbroken ((zero ++ nonzero) ++ []) = subst (λ m. Each Unbroken (r.simple_bounds y n es m)) named all in
+      let both = each_parts Unbroken zero nonzero (each_parts Unbroken (zero ++ nonzero) [] told).0 in
+      (entered_within (AfterZero n) n F4 seen (free_after n).0 both.0, entered_within (AfterNonzero n) n F4 seen (free_after n).1 both.1)
+
   -- where a function returns, after its body
   body_within : (f : Text) (m offset : ℕ) (kind : p.Kind) (rs : p.Redirects) → stated ≡ false → Each Unbroken (r.body_bounds f (p.command m offset kind rs))
       → IsWithin (facts (c.claim (ReturnsZero f))) (seen_facts d c (views.at (AfterZero m))) × IsWithin (facts (c.claim (ReturnsNonzero f))) (seen_facts d c (views.at (AfterNonzero m)))
@@ -132,6 +158,56 @@ module _ (s : Subject) (admitted : IsAdmitted s.script.now s.policy.now s.tree.n
       (subst (λ m. KeepsAsked s admitted other (record { command = m; rule = by; around = y; seen = here.seen })) (rules.command_of-out s.script.now c)
       (kept_there s admitted other keeps by y here.seen (trees.command_of s.script.now c) here.part)))
       here.knows
+
+  -- what is known there
+  slot_knows : (slot : Slot) (q : Seen) (k : Facts) → ((other : Sheet) (keeps : Keeps s other) → IsWithin (facts ((claims s admitted other keeps).claim slot)) (seen_facts (start_of s) (claims s admitted other keeps) q))
+      → Knows s q k → Knows s (views.at slot) k
+  unfolding seen_facts
+  slot_knows slot q k within knows other keeps =
+      let c : Certificate = claims s admitted other keeps in
+      within_through (sees s.names.now (start_of s) c (views.at slot)) (sees s.names.now (start_of s) c q) k
+      (among_grows s.names.now (seen_facts (start_of s) c (views.at slot)) (seen_facts (start_of s) c q) (within_through _ (facts (c.claim slot)) _ (meet_first (facts (c.claim slot)) _) (within other keeps)))
+      (knows other keeps)
+
+  -- after a utility that leaves what is known after its words
+  module _ (by : FlowRule) (y : Around) (k : Facts) (c : Command) (here : IsCommand s by y k c) (plain : IsPlain s c) where
+    abbrev n : ℕ
+    n = (out-Command c).number
+
+    abbrev es : p.Elements
+    es = elements_from s.script.now (elements_of (out-Command c).kind)
+
+    abbrev rs : p.Redirects
+    rs = redirects_from s.script.now (out-Command c).redirects
+
+    utility_rules : (other : Sheet) (keeps : Keeps s other)
+        → Each (Unbroken s.stated (start_of s) (claims s admitted other keeps)) (bounds (functions s admitted other keeps) (record { command = p.command n (out-Command c).at (p.Simple es) rs; rule = by; around = y; seen = here.seen }))
+    utility_rules other keeps =
+        let same : trees.command_of s.script.now c ≡ p.command n (out-Command c).at (p.Simple es) rs =
+        rules.command_of-out s.script.now c ∙ ap (λ m. p.command n (out-Command c).at m rs) plain.simple in
+        subst (λ m. KeepsAsked s admitted other (record { command = m; rule = by; around = y; seen = here.seen })) same
+        (kept_there s admitted other keeps by y here.seen (trees.command_of s.script.now c) here.part)
+
+    utility_left : (other : Sheet) (keeps : Keeps s other)
+        → IsWithin (facts ((claims s admitted other keeps).claim (AfterZero n))) (seen_facts (start_of s) (claims s admitted other keeps) (behind_words es (views.at (views.Before n))))
+        × IsWithin (facts ((claims s admitted other keeps).claim (AfterNonzero n))) (seen_facts (start_of s) (claims s admitted other keeps) (behind_words es (views.at (views.Before n))))
+    utility_left other keeps =
+        let fs : List Text = functions s admitted other keeps in
+        utility_within s.stated (start_of s) (claims s admitted other keeps) fs y n (behind_redirects n rs) es plain.words plain.named
+        (parts_of s.stated (start_of s) (claims s admitted other keeps) fs n (out-Command c).at (p.Simple es) rs by y here.seen (utility_rules other keeps)).1
+
+    utility_entered : Knows s (views.at (views.Before n)) k
+    utility_entered =
+        slot_knows (views.Before n) here.seen k
+        (λ other keeps. own_within s.stated (start_of s) (claims s admitted other keeps) (functions s admitted other keeps) n (out-Command c).at (p.Simple es) rs by y here.seen (utility_rules other keeps))
+        here.knows
+
+    pub utility_known : (l : Facts) → ((q : Seen) → Knows s q k → Knows s (behind_words es q) l) → Knows s (views.at (AfterZero n)) l × Knows s (views.at (AfterNonzero n)) l
+    utility_known l gained =
+        let left : Knows s (behind_words es (views.at (views.Before n))) l = gained (views.at (views.Before n)) utility_entered in (
+          slot_knows (AfterZero n) (behind_words es (views.at (views.Before n))) l (λ other keeps. (utility_left other keeps).0) left,
+          slot_knows (AfterNonzero n) (behind_words es (views.at (views.Before n))) l (λ other keeps. (utility_left other keeps).1) left,
+        )
 
   -- after the body of a definition
   module _ (by : FlowRule) (y : Around) (q : Seen) (n offset : ℕ) (name : Text) (body : Command) (rs : p.Redirects)

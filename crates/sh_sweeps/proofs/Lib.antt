@@ -17,3 +17,4 @@ pub mod IdleLemmas
 pub mod StayLemmas
 pub mod SideLemmas
 pub mod BeforeLemmas
+pub mod PlainLemmas

@@ -1,5 +1,6 @@
 pub mod Asked
 pub mod Sweeps
+pub mod Plain
 pub mod There
 pub mod Next
 pub mod Sides

@@ -1,0 +1,45 @@
+-- Utilities that leave what is known after their words.
+-- POSIX.1-2024, XCU 2.9.1 (simple commands).
+use Rattle.std.specs.Prelude.{◌≡◌, ℕ, List, [], ◌∷◌, false}
+use Rattle.sh_tree.specs.declared.tree.AndOr.{out-AndOr}
+use Rattle.sh_tree.specs.declared.tree.Command.{Command, out-Command}
+use Rattle.sh_tree.specs.declared.tree.Element.{Element}
+use Rattle.sh_tree.specs.declared.tree.Element.TheVariants as element
+use Rattle.sh_tree.specs.declared.tree.Item.{Item, out-Item}
+use Rattle.sh_tree.specs.declared.tree.Part.TheVariants as part
+use Rattle.sh_tree.specs.declared.tree.Pipe.{out-Pipe}
+use Rattle.sh_tree.specs.declared.tree.Span.{Span}
+use Rattle.sh_tree.specs.declared.tree.Word.{Word}
+use Rattle.sh_tree.specs.Lists.{elements_from}
+use Rattle.sh_tree.specs.standard.Words.{elements_of}
+use Rattle.sh_tree.specs.standard.program.Syntax as p
+use Rattle.sh_tree.specs.standard.program.Trees as trees
+use Rattle.sh_table.specs.declared.kind.Kind.TheVariants as kind
+use Rattle.sh_domain.specs.Table.{Utility, manner}
+use Rattle.sh_domain.specs.Admitted.{functions_in}
+use Rattle.sh_drafts.specs.declared.subject.Subject.{Subject}
+
+-- the item is this command alone
+pub record IsAlone (i : Item) (c : Command) : Type 0 where
+  pub foreground : (out-Item i).background ≡ false
+  pub part : (out-Pipe (out-AndOr (out-Item i).list).first).parts ≡ c ∷ []
+  pub links : (out-AndOr (out-Item i).list).rest ≡ []
+
+-- a simple command of these elements
+pub record IsSimple (c : Command) (es : List Element) : Type 0 where
+  pub elements : elements_of (out-Command c).kind ≡ es
+  pub simple : (b : List ℕ) → trees.kind_of b (out-Command c).kind ≡ p.Simple (elements_from b es)
+
+-- they begin with a name of these plain bytes
+pub record IsNamed (es : List Element) (name : Span) : Type 0 where
+  pub word : Word
+  pub rest : List Element
+  pub first : es ≡ element.Word word ∷ rest
+  pub plain : word.parts ≡ part.Plain name ∷ []
+
+module _ (s : Subject) where
+  -- a utility without a meaning of its own
+  pub record IsPlain (c : Command) : Type 0 where
+    pub simple : trees.kind_of s.script.now (out-Command c).kind ≡ p.Simple (elements_from s.script.now (elements_of (out-Command c).kind))
+    pub words : List p.Word
+    pub named : manner (functions_in s.script.now s.tree.now) (elements_from s.script.now (elements_of (out-Command c).kind)) ≡ Utility kind.Utility words
