@@ -42,11 +42,10 @@ use Rattle.sh_sweeps.proofs.PlacedLemmas.{command_placed, foreground_placed, pip
 -- A name of plain bytes
 
 static_of_plain : (t : p.Text) → (static_of (p.more_parts (p.Plain t) p.no_parts) ≡ None) ⊎ (static_of (p.more_parts (p.Plain t) p.no_parts) ≡ Some t)
-unfolding static_of
+unfolding static_of word_text part_text both_texts
 static_of_plain t = go (is_pattern (p.more_parts (p.Plain t) p.no_parts)) (word_of t)
   where
     word_of : (t : p.Text) → word_text (p.more_parts (p.Plain t) p.no_parts) ≡ Some t
-    unfolding word_text part_text both_texts
     word_of t = ap Some (append-nil t)
 
     go : (b : Bool) {o : Option p.Text} → o ≡ Some t → ((if b then None else o) ≡ None) ⊎ ((if b then None else o) ≡ Some t)
@@ -66,9 +65,10 @@ unfolding manner_of_words operands_in words_in parts_from
 utility_manner b functions es name named kind function =
     let word : parts_from b named.word.parts ≡ p.more_parts (p.Plain (text_of b name)) p.no_parts = ap (parts_from b) named.plain ∙ ap (λ x. p.more_parts x p.no_parts) (rules.part_of-Plain b name) in
     let all : elements_from b es ≡ p.operand (p.more_parts (p.Plain (text_of b name)) p.no_parts) (elements_from b named.rest) =
-    ap (elements_from b) named.first ∙ rules.elements_from-Word b named.word named.rest ∙ ap (λ w. p.operand w (elements_from b named.rest)) word in
-    (words_in (operands_in (elements_from b named.rest)),
-    ap (manner functions) all ∙ named_utility functions (text_of b name) _ _ (static_of_plain (text_of b name)) kind function)
+    ap (elements_from b) named.first ∙ rules.elements_from-Word b named.word named.rest ∙ ap (λ w. p.operand w (elements_from b named.rest)) word in (
+      words_in (operands_in (elements_from b named.rest)),
+      ap (manner functions) all ∙ named_utility functions (text_of b name) _ _ (static_of_plain (text_of b name)) kind function,
+    )
 
 pub is_plain : (s : Subject) (c : Command) (es : List Element) (name : Span) → IsSimple c es → IsNamed es name → kind_of (text_of s.script.now name) ≡ kind.Utility
     → is_one_of (functions_in s.script.now s.tree.now) (text_of s.script.now name) ≡ false → IsPlain s c
