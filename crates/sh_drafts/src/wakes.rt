@@ -1,7 +1,7 @@
 //! What waits after something was lowered: hints.
 ghost use Rattle.std.specs.Prelude.{◌≡◌};
 
-use crate::draft::Draft;
+use crate::draft::{Draft, patience_after};
 use crate::kept::{drops_of, facts_at};
 use crate::place::{Part, Place};
 use crate::subject::Subject;
@@ -67,9 +67,10 @@ pub fn note_place(
     }
     draft.lowered = draft.lowered.saturating_add(1);
     let now = facts_at(&draft.certificate, place);
-    let is_count = now != before && rows_of(now) == rows_of(before);
-    draft.counted = draft.counted.saturating_add(u64::from(is_count));
-    draft.is_count = is_count;
+    draft.is_count = now != before && rows_of(now) == rows_of(before);
+    if !draft.is_count {
+        draft.tires = patience_after(draft.looks, subject.commands.len());
+    }
     wake_place(subject, &mut draft.waiting, place)
 }
 

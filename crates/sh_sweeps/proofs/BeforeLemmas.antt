@@ -162,7 +162,7 @@ module _ (s : Subject) (admitted : IsAdmitted s.script.now s.policy.now s.tree.n
   -- what is known there
   slot_knows : (slot : Slot) (q : Seen) (k : Facts) → ((other : Sheet) (keeps : Keeps s other) → IsWithin (facts ((claims s admitted other keeps).claim slot)) (seen_facts (start_of s) (claims s admitted other keeps) q))
       → Knows s q k → Knows s (views.at slot) k
-  unfolding seen_facts
+  unfolding seen_facts views.steps views.source_facts
   slot_knows slot q k within knows other keeps =
       let c : Certificate = claims s admitted other keeps in
       within_through (sees s.names.now (start_of s) c (views.at slot)) (sees s.names.now (start_of s) c q) k

@@ -1,5 +1,5 @@
 -- What is known is carried over an item that is a utility alone.
-use Rattle.std.proofs.Common.{◌≡◌, ℕ, Bool, true, false, List, [], ◌∷◌, ◌++◌, append-nil, Option, Some, None, length, ◌≤◌, refl, sym, ap, ◌∙◌, subst, arith, if◌then◌else◌}
+use Rattle.std.proofs.Common.{◌≡◌, ◌⊎◌, inl, inr, ℕ, Bool, true, false, List, [], ◌∷◌, ◌++◌, append-nil, Option, Some, None, length, ◌≤◌, refl, sym, ap, ◌∙◌, subst, arith, if◌then◌else◌}
 use Rattle.std.specs.Prelude.{not, ◌&&◌}
 use Rattle.sh_tree.specs.declared.tree.AndOr.{AndOr, out-AndOr}
 use Rattle.sh_tree.specs.declared.tree.Command.{Command, out-Command}
@@ -42,22 +42,22 @@ use Rattle.sh_sweeps.proofs.PlacedLemmas.{command_placed, foreground_placed, pip
 -- A name of plain bytes
 
 static_of_plain : (t : p.Text) → (static_of (p.more_parts (p.Plain t) p.no_parts) ≡ None) ⊎ (static_of (p.more_parts (p.Plain t) p.no_parts) ≡ Some t)
-unfolding static_of word_text part_text both_texts
+unfolding static_of word_text part_text
 static_of_plain t = go (is_pattern (p.more_parts (p.Plain t) p.no_parts)) (word_of t)
   where
     word_of : (t : p.Text) → word_text (p.more_parts (p.Plain t) p.no_parts) ≡ Some t
     word_of t = ap Some (append-nil t)
 
     go : (b : Bool) {o : Option p.Text} → o ≡ Some t → ((if b then None else o) ≡ None) ⊎ ((if b then None else o) ≡ Some t)
-    go true e = left refl
-    go false e = right e
+    go true e = inl refl
+    go false e = inr e
 
 -- it is no function's, and has no meaning of its own
 named_utility : (functions : List p.Text) (t : p.Text) (o : Option p.Text) (ws : List p.Word) → (o ≡ None) ⊎ (o ≡ Some t) → kind_of t ≡ kind.Utility → is_one_of functions t ≡ false
     → manner_of_name functions o ws ≡ Utility kind.Utility ws
 unfolding manner_of_name
-named_utility functions t o ws (left none) kind function = rw none refl
-named_utility functions t o ws (right some) kind function = rw some (rw function (rw kind refl))
+named_utility functions t o ws (inl none) kind function = rw none refl
+named_utility functions t o ws (inr some) kind function = rw some (rw function (rw kind refl))
 
 utility_manner : (b : List ℕ) (functions : List p.Text) (es : List Element) (name : Span) → IsNamed es name → kind_of (text_of b name) ≡ kind.Utility → is_one_of functions (text_of b name) ≡ false
     → (ws : List p.Word) × (manner functions (elements_from b es) ≡ Utility kind.Utility ws)

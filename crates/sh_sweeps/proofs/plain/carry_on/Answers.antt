@@ -16,7 +16,7 @@ returns c =
     let r = c.requires.ready.1 in
     let x = c.args.certificate.now in
     let w = c.requires.placed in
-    let k = knowledge_facts s.names.now c.join.new.course.behind.zero in
+    let k = knowledge_facts s.names.now c.join.new.self.zero in
     let l = knowledge_facts s.names.now c.behind_operands-behind.result in
     utility_passed s r.admitted x (numbered s.script.now s.policy.now s.tree.now s.names.now r.admitted) r.over w.0 c.args.course.now _ c.args.item.now w.1 c.args.command.now k l c.requires.alone c.requires.plain
     (c.join.ensures.zero (setting_by s x)) w.2
