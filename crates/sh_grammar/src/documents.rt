@@ -1,7 +1,7 @@
 //! The bodies of here-documents (XCU 2.7.4).
 ghost use Rattle.std.specs.Prelude.{◌-◌, ◌≡◌, ◌<◌, ◌≤◌, ◌&&◌, not, ◌∷◌, [], length};
 ghost use Rattle.sh_grammar.specs.Documents.{BodyRead, Checks, DocumentFrom, DocumentsFrom, Passing};
-ghost use Rattle.sh_grammar.specs.Faults.{IsFault};
+ghost use Rattle.sh_grammar.specs.Faults.{IsFault, unended};
 ghost use Rattle.sh_grammar.specs.Nests.{Nests};
 ghost use Rattle.sh_grammar.specs.States.{AreBefore, Lies};
 
@@ -20,7 +20,8 @@ use std::alloc::Global;
 fn unended(script: &[u8], mark: &Mark, from: &State) -> Refusal
     requires small { length script.now ≤ MAX_SCRIPT }
     requires inside { mark.now.at < length script.now }
-    ensures { IsFault script.now result }
+    ensures which { result ≡ unended script.now mark.now from.now }
+    ensures fault { IsFault script.now result }
 {
     if let Some(at) = from.ticks.overrun(script) {
         Refusal::LeftOut(Form::BackquoteInside, at)
