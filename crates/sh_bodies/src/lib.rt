@@ -214,27 +214,19 @@ fn fill_kind(alloc: Global, kind: Kind, bodies: &mut VecDeque<Document>) -> Resu
         Kind::Cond {
             branches,
             otherwise,
-        } => {
-            let branches = fill_branches(alloc, branches, bodies)?;
-            let otherwise = fill_otherwise(alloc, otherwise, bodies)?;
-            Ok(Kind::Cond {
-                branches,
-                otherwise,
-            })
-        }
+        } => Ok(Kind::Cond {
+            branches: fill_branches(alloc, branches, bodies)?,
+            otherwise: fill_otherwise(alloc, otherwise, bodies)?,
+        }),
         Kind::Loop {
             kind,
             condition,
             body,
-        } => {
-            let condition = fill_script(alloc, condition, bodies)?;
-            let body = fill_script(alloc, body, bodies)?;
-            Ok(Kind::Loop {
-                kind,
-                condition,
-                body,
-            })
-        }
+        } => Ok(Kind::Loop {
+            kind,
+            condition: fill_script(alloc, condition, bodies)?,
+            body: fill_script(alloc, body, bodies)?,
+        }),
         Kind::For { name, words, body } => {
             let body = fill_script(alloc, body, bodies)?;
             Ok(Kind::For { name, words, body })

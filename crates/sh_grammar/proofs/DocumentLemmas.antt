@@ -76,6 +76,11 @@ module _ (b : List ℕ) (m : Mark) (s : State) where
             ap here to ∙ ap (λ ds. record (here (record s { at = behind_line b line.end; count = count })) { bodies = ds }) (map-append document_of s.bodies (one ∷ []))
             ∙ ap (λ n. with_document (behind_line b line.end) (document_of one) (record body.last { count = n }) (here s)) (sym body.counts)
 
+-- a line ends the body
+pub line_ends : (b : List ℕ) (m : Mark) (s t : State) (line : Span) → t ≡ s → Some line ≡ end_line (mark_of m) b t.at → end_line (mark_of m) b s.at ≡ None → ⊥
+unfolding is_some
+line_ends b m s t line same is none = true≢false (ap is_some (is ∙ ap (λ (v : State). end_line (mark_of m) b v.at) same ∙ none))
+
 -- The parts of a body, by what is built in the text that ends with it
 
 module _ (b : List ℕ) (m : Mark) (end : ℕ) (s : State) where

@@ -55,6 +55,16 @@ ended_by None (m ∷ ms) f i = Syntax fault.OpenHereDoc m.at
 abbrev pub ended : List ℕ → State → Fault → ℕ → Refusal
 ended b s f i = ended_by (overrun s.ticks (length b)) s.pending f i
 
+-- What is reported if no line ends the body of m, which begins at s: the closing backquote, over
+-- which something ran; in a body whose lines are joined, that m goes on outside; or else m.
+abbrev pub unended_by : Option ℕ → (joins : Bool) → ℕ → Refusal
+unended_by (Some at) joins i = LeftOut form.BackquoteInside at
+unended_by None true i = LeftOut form.HereAcross i
+unended_by None false i = Syntax fault.OpenHereDoc i
+
+abbrev pub unended : List ℕ → Mark → State → Refusal
+unended b m s = unended_by (overrun s.ticks (length b)) s.joins m.at
+
 -- what is reported of the token at s, which has no place there
 abbrev pub TellsAt : List ℕ → Lead → State → Refusal → Type 0
 TellsAt b lead.End s e = e ≡ ended b s fault.UnexpectedEnd s.at

@@ -1,7 +1,9 @@
 //! The bodies of here-documents (XCU 2.7.4).
-ghost use Rattle.std.specs.Prelude.{◌-◌, ◌≡◌, ◌<◌, ◌≤◌, ◌&&◌, not, ◌∷◌, [], length};
+ghost use Rattle.std.specs.Prelude.{◌-◌, ◌≡◌, ◌<◌, ◌≤◌, ◌&&◌, not, ◌∷◌, [], None, Err, length};
+ghost use Rattle.sh_tree.specs.standard.language.HereDocuments as here_documents;
 ghost use Rattle.sh_grammar.specs.Documents.{BodyRead, Checks, DocumentFrom, DocumentsFrom, Passing};
-ghost use Rattle.sh_grammar.specs.Faults.{IsFault};
+ghost use Rattle.sh_grammar.specs.Faults.{IsFault, unended};
+ghost use Rattle.sh_grammar.specs.Marks.{mark_of};
 ghost use Rattle.sh_grammar.specs.Nests.{Nests};
 ghost use Rattle.sh_grammar.specs.States.{AreBefore, Lies};
 
@@ -20,7 +22,8 @@ use std::alloc::Global;
 fn unended(script: &[u8], mark: &Mark, from: &State) -> Refusal
     requires small { length script.now ≤ MAX_SCRIPT }
     requires inside { mark.now.at < length script.now }
-    ensures { IsFault script.now result }
+    ensures which { result ≡ unended script.now mark.now from.now }
+    ensures fault { IsFault script.now result }
 {
     if let Some(at) = from.ticks.overrun(script) {
         Refusal::LeftOut(Form::BackquoteInside, at)
@@ -89,7 +92,8 @@ impl<F: Fn(Global, &[u8], Cursor) -> Result<(Script, Cursor), Refusal>> Grammar<
         requires marked { AreBefore (length script.now) (mark.now ∷ []) }
         requires further { length script.now - from.at < self.now.left }
         requires nests { Nests self.now.left (F.pre self.now.nested) (F.post self.now.nested) }
-        ensures { Passing script.now (DocumentFrom script.now mark.now from) from.at result }
+        ensures reads { Passing script.now (DocumentFrom script.now mark.now from) from.at result }
+        ensures open { here_documents.end_line (mark_of mark.now) script.now from.at ≡ None → result ≡ Err (unended script.now mark.now from) }
     {
         let here = from.get();
         let Some(line) = end_line(script, mark, here.at) else {

@@ -45,11 +45,11 @@ unfolding Each
 each_first P x xs all = all.0
 
 module _ (s : Tally) (y : Around) where
-  -- what the rules require of a command by its kind
-  pub kind_kept : (t : p.Items) (u : ℕ → ℕ) (k : Keeps s t u) (by : FlowRule) (q : Seen) (n offset : ℕ) (kind : p.Kind) (rs : p.Redirects) → IsPart t (e.command_entered by y q (p.command n offset kind rs))
-      → AreKept s t u k (r.kind_bounds (functions_of (script_entered t)) y n (behind_redirects n rs) kind)
+  -- what the rules require of a command by its kind, and of its redirections
+  pub both_kept : (t : p.Items) (u : ℕ → ℕ) (k : Keeps s t u) (by : FlowRule) (q : Seen) (n offset : ℕ) (kind : p.Kind) (rs : p.Redirects) → IsPart t (e.command_entered by y q (p.command n offset kind rs))
+      → AreKept s t u k (r.kind_bounds (functions_of (script_entered t)) y n (behind_redirects n rs) kind) × AreKept s t u k (r.redirects_bounds n rs)
   unfolding bounds e.items_entered
-  kind_kept t u k by q n offset kind rs part =
+  both_kept t u k by q n offset kind rs part =
       let fs = functions_of (script_entered t) in
       let one : Entered = record { command = p.command n offset kind rs; rule = by; around = y; seen = q } in
       let before : List Constraint = bound (Before n) n by q in
@@ -60,22 +60,7 @@ module _ (s : Tally) (y : Around) where
       let all : Each (Unbroken k.known k.claims) (bounds fs one) = each_first _ one [] (part_kept k.known k.claims t (one ∷ []) k.rules own) in
       let last = each_parts (Unbroken k.known k.claims) (before ++ its ++ redirected) counted all in
       let third = each_parts (Unbroken k.known k.claims) (before ++ its) redirected last.0 in
-      (each_parts (Unbroken k.known k.claims) before its third.0).1
-
-  pub redirects_kept : (t : p.Items) (u : ℕ → ℕ) (k : Keeps s t u) (by : FlowRule) (q : Seen) (n offset : ℕ) (kind : p.Kind) (rs : p.Redirects) → IsPart t (e.command_entered by y q (p.command n offset kind rs))
-      → AreKept s t u k (r.redirects_bounds n rs)
-  unfolding bounds e.items_entered
-  redirects_kept t u k by q n offset kind rs part =
-      let fs = functions_of (script_entered t) in
-      let one : Entered = record { command = p.command n offset kind rs; rule = by; around = y; seen = q } in
-      let before : List Constraint = bound (Before n) n by q in
-      let its : List Constraint = r.kind_bounds fs y n (behind_redirects n rs) kind in
-      let redirected : List Constraint = r.redirects_bounds n rs in
-      let counted : List Constraint = r.counted y.drops n (losses fs one) in
-      let own = first_part t (one ∷ []) (e.redirects_entered (views.at (Before n)) rs ++ e.kind_entered y n (behind_redirects n rs) kind) part in
-      let all : Each (Unbroken k.known k.claims) (bounds fs one) = each_first _ one [] (part_kept k.known k.claims t (one ∷ []) k.rules own) in
-      let last = each_parts (Unbroken k.known k.claims) (before ++ its ++ redirected) counted all in
-      (each_parts (Unbroken k.known k.claims) (before ++ its) redirected last.0).1
+      ((each_parts (Unbroken k.known k.claims) before its third.0).1, third.1)
 
   pub kind_texts : (t : p.Items) (u : ℕ → ℕ) (k : Keeps s t u) (by : FlowRule) (q : Seen) (n offset : ℕ) (kind : p.Kind) (rs : p.Redirects) → IsPart t (e.command_entered by y q (p.command n offset kind rs))
       → HasTexts s (p.command n offset kind rs)

@@ -28,7 +28,7 @@ use Rattle.sh_tally.specs.Tallies.{AreBounds, Tallies}
 use Rattle.sh_tally.specs.Views.{command_index, index_of}
 use Rattle.sh_tally.specs.Walks.{AddsCommand, AddsFrom, AddsRedirects, IsPart, Passes, Sight, names}
 use Rattle.sh_tally.proofs.IterationLemmas.{ListPassed, list_begun, list_next, list_passed}
-use Rattle.sh_tally.proofs.KindLemmas.{kind_kept, kind_part, kind_texts, redirects_kept, redirects_part}
+use Rattle.sh_tally.proofs.KindLemmas.{both_kept, kind_part, kind_texts, redirects_part}
 use Rattle.sh_tally.proofs.ViewLemmas.{raised_less, raised_see, weaker_see}
 use Rattle.sh_tally.proofs.WalkLemmas.{Unbroken, before_index, entered_bounds, place_bounds}
 
@@ -82,7 +82,8 @@ module _ (s : Tally) where
       let whole : IsPart t (e.command_entered by y q (p.command n (out-Command m).at kind rs)) = subst (λ z. IsPart t (e.command_entered by y q z)) (rules.command_of-out b m) part in
       let here : Sight s (views.at (Before n)) inside = weaker_see (names s) (views.at (Before n)) 0 before inside (raised_less (redirects_gains rs).args 0 before inside (omega arith) passed.gained) own in
       let behind : Sight s (behind_redirects n rs) inside = raised_see (names s) (views.at (Before n)) (redirects_gains rs) before inside passed.gained own in
-      adds (out-Command m).at rs here (kind_texts s y t u k by q n (out-Command m).at kind rs whole) t u (behind_redirects n rs) k behind (kind_part s y t by q n (out-Command m).at kind rs whole) (kind_kept s y t u k by q n (out-Command m).at kind rs whole)
+      let kept = both_kept s y t u k by q n (out-Command m).at kind rs whole in
+      adds (out-Command m).at rs here (kind_texts s y t u k by q n (out-Command m).at kind rs whole) t u (behind_redirects n rs) k behind (kind_part s y t by q n (out-Command m).at kind rs whole) kept.0
       (passed.adds t u (views.at (Before n)) k own (redirects_part s y t by q n (out-Command m).at kind rs whole)
-      (fails t u k (redirects_kept s y t u k by q n (out-Command m).at kind rs whole)
+      (fails t u k kept.1
       (asks u (entered_bounds s y by m known place (before_index s m place at) t u q k sight part) tallied)))

@@ -254,10 +254,10 @@ module _ (s : Tally) (t : p.Items) (u : ℕ → ℕ) (k : Keeps s t u) where
 -- What is known after a simple command
 
 module _ (s : Tally) (y : Around) (n : ℕ) (es : p.Elements) (left : Views) where
-  abbrev pub behind : Seen
+  abbrev behind : Seen
   behind = behind_words es (views.at (Before n))
 
-  abbrev pub kept_gains : Gains
+  abbrev kept_gains : Gains
   kept_gains = and_gains (assignments_gains es) (redirections_gains es)
 
   abbrev pub settled : Seen

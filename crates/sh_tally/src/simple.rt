@@ -179,8 +179,8 @@ impl Tally<'_> {
         }
     }
 
-    // Adds bounds of the counts after a special built-in utility. If it ends the shell, or runs
-    // what is in no reading of the script, the counts stay as they are claimed.
+    // Adds bounds of the counts after a special built-in utility. Nothing runs after `return` and
+    // `exit`, and a script with `.` or `eval` is refused. Sweeps lower what a `return` hands on.
     fn special(
         &self,
         equations: &mut Equations,

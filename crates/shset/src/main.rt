@@ -5,8 +5,8 @@
 ghost use Rattle.std.specs.Prelude.{◌≡◌, ℕ, List, [], IfOk};
 ghost use Rattle.std.specs.Process.{exit_status};
 ghost use Rattle.sh_answers.specs.Ends.{HasRoom};
-ghost use Rattle.sh_accept.specs.Written.{Tells};
 ghost use Rattle.sh_answers.specs.Moves.{Had};
+ghost use Rattle.sh_accept.specs.Written.{Tells};
 ghost use Rattle.sh_report.specs.Promises.{EndsSafe};
 ghost use Rattle.sh_report.specs.Runs.{HadText, certificate_read, script_read};
 ghost use Rattle.shset.specs.Endings.{Ends, Offers, seen};

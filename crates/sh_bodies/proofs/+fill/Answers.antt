@@ -60,11 +60,11 @@ fill_kind-returns-in_ok-fill_script-in-Group t c = Group_made c.args.bodies.now.
 pub fill_kind-returns-in_ok-fill_script-in-Subshell : goal.fill_kind-returns-in_ok-fill_script-in-Subshell
 fill_kind-returns-in_ok-fill_script-in-Subshell t c = Subshell_made c.args.bodies.now.items c.fill_script-in-Subshell.new.bodies.items c.args.kind c.in-Subshell.list c.in_ok-fill_script-in-Subshell.field-0 c.in-Subshell.is c.in_ok-fill_script-in-Subshell.ensures
 
-pub fill_kind-returns-in_ok-otherwise-in-Cond : goal.fill_kind-returns-in_ok-otherwise-in-Cond
-fill_kind-returns-in_ok-otherwise-in-Cond t c = Cond_made c.args.bodies.now.items c.fill_otherwise.new.bodies.items c.args.kind c.fill_branches.new.bodies.items c.in-Cond.branches c.in_ok-branches-in-Cond.branches c.in-Cond.otherwise c.in_ok-otherwise-in-Cond.otherwise c.in-Cond.is c.in_ok-branches-in-Cond.ensures c.in_ok-otherwise-in-Cond.ensures
+pub fill_kind-returns-in_ok-fill_otherwise-in-Cond : goal.fill_kind-returns-in_ok-fill_otherwise-in-Cond
+fill_kind-returns-in_ok-fill_otherwise-in-Cond t c = Cond_made c.args.bodies.now.items c.fill_otherwise.new.bodies.items c.args.kind c.fill_branches.new.bodies.items c.in-Cond.branches c.in_ok-fill_branches-in-Cond.field-0 c.in-Cond.otherwise c.in_ok-fill_otherwise-in-Cond.field-0 c.in-Cond.is c.in_ok-fill_branches-in-Cond.ensures c.in_ok-fill_otherwise-in-Cond.ensures
 
-pub fill_kind-returns-in_ok-body-in-Loop : goal.fill_kind-returns-in_ok-body-in-Loop
-fill_kind-returns-in_ok-body-in-Loop t c = Loop_made c.args.bodies.now.items c.fill_script-in-Loop-2.new.bodies.items c.args.kind c.fill_script-in-Loop.new.bodies.items c.in-Loop.kind c.in-Loop.condition c.in_ok-condition-in-Loop.condition c.in-Loop.body c.in_ok-body-in-Loop.body c.in-Loop.is c.in_ok-condition-in-Loop.ensures c.in_ok-body-in-Loop.ensures
+pub fill_kind-returns-in_ok-fill_script-in-Loop-2 : goal.fill_kind-returns-in_ok-fill_script-in-Loop-2
+fill_kind-returns-in_ok-fill_script-in-Loop-2 t c = Loop_made c.args.bodies.now.items c.fill_script-in-Loop-2.new.bodies.items c.args.kind c.fill_script-in-Loop.new.bodies.items c.in-Loop.kind c.in-Loop.condition c.in_ok-fill_script-in-Loop.field-0 c.in-Loop.body c.in_ok-fill_script-in-Loop-2.field-0 c.in-Loop.is c.in_ok-fill_script-in-Loop.ensures c.in_ok-fill_script-in-Loop-2.ensures
 
 pub fill_kind-returns-in_ok-body-in-For : goal.fill_kind-returns-in_ok-body-in-For
 fill_kind-returns-in_ok-body-in-For t c = For_made c.args.bodies.now.items c.fill_script-in-For.new.bodies.items c.args.kind c.in-For.name c.in-For.words c.in-For.body c.in_ok-body-in-For.body c.in-For.is c.in_ok-body-in-For.ensures

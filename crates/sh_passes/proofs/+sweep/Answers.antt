@@ -328,30 +328,10 @@ sweep::sweep_kind-sweep_subshell-requires t c =
     search std_rules
 
 pub sweep::sweep_conditional-sweep_cond-requires : goal.sweep::sweep_conditional-sweep_cond-requires
-sweep::sweep_conditional-sweep_cond-requires t c =
-    let s = c.args.subject.now in
-    let r = c.requires.ready in
-    let y = walks.around s.script.now c.args.around.now in
-    let k = knowledge_facts s.names.now c.args.known.now in
-    let bs = branches_from s.script.now c.in-Cond.branches in
-    let z = otherwise_from s.script.now c.in-Cond.otherwise in
-    let here = kind_as s y c.args.number k c.args.kind.now _ _ c.in-Cond.is (program.kind_of-Cond s.script.now c.in-Cond.branches c.in-Cond.otherwise) c.requires.placed in
-    let first = branches_placed s y c.args.number here.seen k bs z here.part here.knows in
-    let placed : AreBranches s y k (branches_from s.script.now c.as_slice-branches.result.now) z = subst (λ cs. AreBranches s y k (branches_from s.script.now cs) z) (sym c.as_slice-branches.ensures) first in
-    search std_rules
+sweep::sweep_conditional-sweep_cond-requires = choices.sweep_conditional-sweep_cond-requires
 
 pub sweep::sweep_conditional-sweep_case-requires : goal.sweep::sweep_conditional-sweep_case-requires
-sweep::sweep_conditional-sweep_case-requires t c =
-    let s = c.args.subject.now in
-    let r = c.requires.ready in
-    let y = walks.around s.script.now c.args.around.now in
-    let k = knowledge_facts s.names.now c.args.known.now in
-    let w = parts_from s.script.now c.in-Branches.word.parts in
-    let here = kind_as s y c.args.number k c.args.kind.now _ _ c.in-Branches.is (program.kind_of-Branches s.script.now c.in-Branches.word c.in-Branches.clauses) c.requires.placed in
-    let first = case_placed s y c.args.number here.seen k w (clauses_from s.script.now c.in-Branches.clauses) here.part here.knows in
-    let placed : IsIn s (λ v. entries.word_entered v w ++ entries.clauses_entered y (gaining (word_gains w) v) [] (clauses_from s.script.now c.as_slice-clauses.result.now)) k =
-    subst (λ cs. IsIn s (λ v. entries.word_entered v w ++ entries.clauses_entered y (gaining (word_gains w) v) [] (clauses_from s.script.now cs)) k) (sym c.as_slice-clauses.ensures) first in
-    search std_rules
+sweep::sweep_conditional-sweep_case-requires = choices.sweep_conditional-sweep_case-requires
 
 pub sweep::sweep_iteration-sweep_loop-requires : goal.sweep::sweep_iteration-sweep_loop-requires
 sweep::sweep_iteration-sweep_loop-requires t c =

@@ -1,23 +1,52 @@
-use Rattle.std.proofs.Common.{rules as std_rules, ◌≡◌, ◌+◌, ◌∷◌, List, drop, sym, subst}
+use Rattle.std.proofs.Common.{rules as std_rules, ◌≡◌, ◌+◌, ◌∷◌, ◌++◌, [], List, drop, sym, subst}
 use Rattle.sh_tree.specs.declared.tree.Branch.{Branch, out-Branch}
 use Rattle.sh_tree.specs.declared.tree.Clause.{Clause, out-Clause}
 use Rattle.sh_tree.specs.Lists.{branches_from, clauses_from, otherwise_from, parts_from, words_from}
 use Rattle.sh_tree.specs.standard.program.Syntax as p
 use Rattle.sh_tree.specs.standard.program.Trees.{script_of}
+use Rattle.sh_tree.proofs.ProgramRules as program
 use Rattle.sh_domain.specs.declared.rule.FlowRule.TheVariants.{F6, F9}
 use Rattle.sh_domain.specs.Entries as entries
 use Rattle.sh_domain.specs.Entries.{Around}
 use Rattle.sh_domain.specs.Facts.{NotReached, meet}
+use Rattle.sh_domain.specs.Gains.{word_gains}
 use Rattle.sh_domain.specs.Knowledge.{knowledge_facts}
+use Rattle.sh_domain.specs.Views.{gaining}
 use Rattle.sh_rules.specs.Behind.{both}
 use Rattle.sh_rules.specs.Walks as walks
 use Rattle.sh_rules.specs.Walks.{facts_in}
 use Rattle.sh_sweeps.specs.Sweeps.{AreBranches, AreClauses, AreItems, IsIn, IsList, IsWord, known_behind, setting_by}
 use Rattle.sh_drafts.specs.Ready.{IsReady}
-use Rattle.sh_sweeps.proofs.PlacedLemmas.{at_index, begun_at, branch_body, branch_condition, branches_next, clause_list, clauses_next, clauses_placed, else_placed, known_after}
+use Rattle.sh_sweeps.proofs.PlacedLemmas.{at_index, begun_at, branch_body, branch_condition, branches_next, branches_placed, case_placed, clause_list, clauses_next, clauses_placed, else_placed, known_after}
 use Rattle.sh_drafts.proofs.ReadyLemmas.{names_numbered, ready_again, swept_more, swept_none}
-use Rattle.sh_sweeps.proofs.WordLemmas.{case_word, clause_patterns, if_ok}
+use Rattle.sh_sweeps.proofs.WordLemmas.{case_word, clause_patterns, if_ok, kind_as}
 use Rattle.sh_passes.proofs.+sweep.Goals as goal
+
+pub sweep_conditional-sweep_cond-requires : goal.sweep::sweep_conditional-sweep_cond-requires
+sweep_conditional-sweep_cond-requires t c =
+    let s = c.args.subject.now in
+    let r = c.requires.ready in
+    let y = walks.around s.script.now c.args.around.now in
+    let k = knowledge_facts s.names.now c.args.known.now in
+    let bs = branches_from s.script.now c.in-Cond.branches in
+    let z = otherwise_from s.script.now c.in-Cond.otherwise in
+    let here = kind_as s y c.args.number k c.args.kind.now _ _ c.in-Cond.is (program.kind_of-Cond s.script.now c.in-Cond.branches c.in-Cond.otherwise) c.requires.placed in
+    let first = branches_placed s y c.args.number here.seen k bs z here.part here.knows in
+    let placed : AreBranches s y k (branches_from s.script.now c.as_slice-branches.result.now) z = subst (λ cs. AreBranches s y k (branches_from s.script.now cs) z) (sym c.as_slice-branches.ensures) first in
+    search std_rules
+
+pub sweep_conditional-sweep_case-requires : goal.sweep::sweep_conditional-sweep_case-requires
+sweep_conditional-sweep_case-requires t c =
+    let s = c.args.subject.now in
+    let r = c.requires.ready in
+    let y = walks.around s.script.now c.args.around.now in
+    let k = knowledge_facts s.names.now c.args.known.now in
+    let w = parts_from s.script.now c.in-Branches.word.parts in
+    let here = kind_as s y c.args.number k c.args.kind.now _ _ c.in-Branches.is (program.kind_of-Branches s.script.now c.in-Branches.word c.in-Branches.clauses) c.requires.placed in
+    let first = case_placed s y c.args.number here.seen k w (clauses_from s.script.now c.in-Branches.clauses) here.part here.knows in
+    let placed : IsIn s (λ v. entries.word_entered v w ++ entries.clauses_entered y (gaining (word_gains w) v) [] (clauses_from s.script.now c.as_slice-clauses.result.now)) k =
+    subst (λ cs. IsIn s (λ v. entries.word_entered v w ++ entries.clauses_entered y (gaining (word_gains w) v) [] (clauses_from s.script.now cs)) k) (sym c.as_slice-clauses.ensures) first in
+    search std_rules
 
 pub sweep_branch-sweep_items-requires : goal.choices::sweep_branch-sweep_items-requires
 unfolding facts_in

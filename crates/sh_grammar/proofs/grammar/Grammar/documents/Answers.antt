@@ -10,7 +10,7 @@ loop-left-preserved g c =
     let left = at.left.now in
     let m = c.mark-item.result in
     let more = subst (λ ms. DocumentsLeft b c.args.marks.now c.args.from ms at.next) (mark_first left m c.in-len1-up.len_at_least c.mark-item.is) at.invariant in
-    documents_more b c.args.marks.now c.args.from m (take (length left - 1) (drop 1 left)) at.next more c.in_ok-next.next c.in_ok-next.ensures
+    documents_more b c.args.marks.now c.args.from m (take (length left - 1) (drop 1 left)) at.next more c.in_ok-next.next c.in_ok-next.ensures.reads
 
 pub returns-in_err-next : goal.returns-in_err-next
 returns-in_err-next g c =
@@ -20,7 +20,7 @@ returns-in_err-next g c =
     let m = c.mark-item.result in
     let more = subst (λ ms. DocumentsLeft b c.args.marks.now c.args.from ms at.next) (mark_first left m c.in-len1-up.len_at_least c.mark-item.is) at.invariant in
     let p = err_from_is_err_and c.from_residual.result c.from_residual.ensures.1 in
-    rw (p.1, p.2) (documents_refused b c.args.marks.now c.args.from m (take (length left - 1) (drop 1 left)) at.next more c.in_err-next.field-0.0 c.in_err-next.ensures)
+    rw (p.1, p.2) (documents_refused b c.args.marks.now c.args.from m (take (length left - 1) (drop 1 left)) at.next more c.in_err-next.field-0.0 c.in_err-next.ensures.reads)
 
 pub returns : goal.returns
 returns g c =
