@@ -1,5 +1,5 @@
 -- Bodies of here-documents: one, and all that wait at a newline.
-use Rattle.std.proofs.Common.{◌≡◌, ℕ, ◌<◌, ◌≤◌, true, false, not, List, [], ◌∷◌, ◌++◌, ◌-◌, length, get_or, map, take, drop, arith, Some, refl, sym, ap, subst, ◌∙◌, le_refl, le_trans}
+use Rattle.std.proofs.Common.{None, ◌≡◌, ℕ, ◌<◌, ◌≤◌, true, false, not, List, [], ◌∷◌, ◌++◌, ◌-◌, length, get_or, map, take, drop, arith, Some, refl, sym, ap, subst, ◌∙◌, le_refl, le_trans}
 use Rattle.std.proofs.lemmas.Bool.{true≢false}
 use Rattle.std.proofs.lemmas.List.{map-append, take_all}
 use Rattle.sh_tree.specs.declared.refusal.Refusal.{Refusal}
