@@ -16,7 +16,11 @@ pub struct Draft {
     pub probe: BitRow,
     /// How often it was lowered so far: a hint.
     pub lowered: u64,
-    /// Whether the last that fell was a count of parameters alone: a hint.
+    /// How often nothing fell at a place except its count of parameters: a hint.
+    pub counted: u64,
+    /// If counts fell more often than this, they are solved apart: a hint.
+    pub rest: u64,
+    /// Whether the last that fell was such a count: a hint.
     pub is_count: bool,
     /// If counts alone fall until there are more looks than this, they are solved apart: a hint.
     pub tires: u64,
@@ -32,20 +36,35 @@ pub struct Draft {
     pub waiting: Waiting,
 }
 
+// How often counts fall for each command until they are solved apart.
+const FALLS: u64 = 4;
+
 // How many looks there are for each command until a search goes on in another way.
 const LOOKS: u64 = 8;
+
+// So often more for each of so many commands.
+fn after(so_far: u64, commands: usize, times: u64) -> u64 {
+    let more = (commands as u64).saturating_add(8).saturating_mul(times);
+    so_far.saturating_add(more)
+}
+
+/// How often the counts of so many commands may fall until they are solved apart, if they fell so
+/// often so far: a hint.
+pub fn rest_after(counted: u64, commands: usize) -> u64 {
+    after(counted, commands, FALLS)
+}
 
 /// How many looks there may be at so many commands until a search goes on in another way, if there
 /// were so many so far: a hint.
 pub fn patience_after(looks: u64, commands: usize) -> u64 {
-    let more = (commands as u64).saturating_add(8).saturating_mul(LOOKS);
-    looks.saturating_add(more)
+    after(looks, commands, LOOKS)
 }
 
 impl Draft {
-    /// Whether counts alone fell for so long that they are to be solved apart: a hint.
+    /// Whether the counts fell so often, or alone for so long, that they are to be solved apart: a
+    /// hint.
     pub fn is_tired(&self) -> bool {
-        self.is_count && self.looks > self.tires
+        self.counted > self.rest || (self.is_count && self.looks > self.tires)
     }
 
     /// Whether sweeps carry what is known over utilities that leave it, and lower nothing there: a

@@ -68,6 +68,7 @@ pub fn note_place(
     draft.lowered = draft.lowered.saturating_add(1);
     let now = facts_at(&draft.certificate, place);
     draft.is_count = now != before && rows_of(now) == rows_of(before);
+    draft.counted = draft.counted.saturating_add(u64::from(draft.is_count));
     if !draft.is_count {
         draft.tires = patience_after(draft.looks, subject.commands.len());
     }

@@ -48,6 +48,8 @@ fn filled(alloc: Global, subject: &Subject<'_>) -> Result<Certificate, AllocErro
         certificate,
         probe,
         lowered: 0,
+        counted: 0,
+        rest: 0,
         is_count: false,
         tires: u64::MAX,
         looks: 0,

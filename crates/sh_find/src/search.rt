@@ -15,7 +15,7 @@ ghost use Rattle.sh_drafts.specs.Working.{IsWorking};
 
 use indexmap::IndexMap;
 use sh_domain::{Certificate, Compact, Facts, Names, Policy, Rows};
-use sh_drafts::{Draft, Subject, Target, Writable, patience_after, unreached};
+use sh_drafts::{Draft, Subject, Target, Writable, patience_after, rest_after, unreached};
 use sh_passes::{sweep_by_rounds, sweep_round, sweep_waiting};
 use sh_rows::{BitRow, Row};
 use sh_table::CallTable;
@@ -42,6 +42,7 @@ fn rest_counts(subject: &Subject<'_>, draft: &mut Draft) -> Result<(), AllocErro
 {
     if draft.is_tired() {
         solve_counts(subject, draft)?;
+        draft.rest = rest_after(draft.counted, subject.commands.len());
         draft.tires = patience_after(draft.looks, subject.commands.len());
     }
     Ok(())
@@ -128,6 +129,8 @@ fn settled(alloc: Global, subject: &Subject<'_>, way: Way) -> Result<(Certificat
         certificate,
         probe,
         lowered: 0,
+        counted: 0,
+        rest: rest_after(0, subject.commands.len()),
         is_count: false,
         tires: patience_after(0, subject.commands.len()),
         looks: 0,
