@@ -1,5 +1,6 @@
 -- What `break` and `continue` require of counts at the loops that they go to.
-use Rattle.std.proofs.Common.{◌≡◌, ℕ, ◌<◌, map, List, ◌++◌, Option, Some, None, is_some, unwrap_or, option_map, IfSome, sym, ap, ◌∙◌, subst, arith, true≢false}
+use Rattle.std.proofs.Common.{◌≡◌, ℕ, ◌-◌, ◌<◌, ◌≤◌, nat_le, map, Bool, true, false, if◌then◌else◌, List, [], ◌∷◌, ◌++◌, Option, Some, None, is_some, unwrap_or, option_map, IfSome, ⊎_elim, refl, sym, ap, ◌∙◌, subst, arith, le-leb, leb-true, true≢false}
+use Rattle.std.proofs.lemmas.Bool.{cases_lt}
 use Rattle.sh_tree.specs.declared.known.KnownName.TheVariants as known
 use Rattle.sh_tree.specs.standard.program.Syntax as p
 use Rattle.sh_tree.specs.standard.program.Syntax.{Word}
@@ -26,7 +27,7 @@ use Rattle.sh_tally.specs.declared.places.Part.TheVariants as part
 use Rattle.sh_tally.specs.declared.views.Views.{Views}
 use Rattle.sh_tally.specs.Tallies.{AreBounds, Tallies}
 use Rattle.sh_tally.specs.Views.{command_index, index_of}
-use Rattle.sh_tally.specs.Walks.{AddsManner, AreKept, Keeps, names}
+use Rattle.sh_tally.specs.Walks.{AddsManner, AreKept, Keeps, names, outermost}
 use Rattle.sh_tally.proofs.SimpleLemmas.{Unbroken, left_by, settled, settled_sight}
 use Rattle.sh_tally.proofs.WalkLemmas.{place_bounds}
 
@@ -49,6 +50,53 @@ pub loop_read : (m : ℕ) (o : Option ℕ) (ls : List ℕ) (ts : List Static) �
     → IfSome o (λ l. (ws : List Word) → map static_of ws ≡ ts → r.jump_loop (first_number ws) ls ≡ Some l)
 loop_read m None ls ts is few goes = tt
 loop_read m (Some l) ls ts is few goes = loop_known m l ls ts is few goes
+
+-- a jump over more loops than there are goes to the outermost one
+
+more_than_one : (c n : ℕ) → nat_le c 1 ≡ false → c ≤ n → (b : Bool) → nat_le n 1 ≡ b → b ≡ false
+more_than_one c n few le false is = refl
+more_than_one c n few le true is =
+    let low : n ≤ 1 = leb-true n 1 is in
+    let one : nat_le c 1 ≡ true = le-leb c 1 (omega (arith, low, le)) in
+    absurd (true≢false (sym one ∙ few))
+
+outer_more : (c n l : ℕ) (ls : List ℕ) (b : Bool) → nat_le c 1 ≡ b → c ≤ n → (1 < c → IfSome (outermost (c - 1) ls) (λ m. r.loop_at (n - 1) ls ≡ Some m))
+    → IfSome (if b then None else outermost (c - 1) ls) (λ m. (if nat_le n 1 then Some l else r.loop_at (n - 1) ls) ≡ Some m)
+outer_more c n l ls true is le goes = tt
+outer_more c n l ls false is le goes =
+    let many : nat_le n 1 ≡ false = more_than_one c n is le (nat_le n 1) refl in
+    subst (λ b. IfSome (outermost (c - 1) ls) (λ m. (if b then Some l else r.loop_at (n - 1) ls) ≡ Some m)) (sym many)
+    (goes (above c is))
+  where
+    above : (k : ℕ) → nat_le k 1 ≡ false → 1 < k
+    above k few =
+        ⊎_elim
+        (λ (lt : 1 < k). lt)
+        (λ (low : k ≤ 1). absurd (true≢false (sym (le-leb k 1 low) ∙ few)))
+        (cases_lt 1 k)
+
+outer_goes : (c n : ℕ) (ls : List ℕ) → c ≤ n → IfSome (outermost c ls) (λ m. r.loop_at n ls ≡ Some m)
+unfolding outermost r.loop_at
+outer_goes c n [] le = tt
+outer_goes c n (l ∷ []) le = refl
+outer_goes c n (l ∷ m ∷ ls) le = outer_more c n l (m ∷ ls) (nat_le c 1) refl le (λ many. outer_goes (c - 1) (n - 1) (m ∷ ls) (omega (arith, le)))
+
+outer_known : (m l : ℕ) (o : Option ℕ) (ls : List ℕ) → Some m ≡ option_map capped o → ((x : ℕ) → m ≤ x → r.loop_at x ls ≡ Some l) → r.jump_loop o ls ≡ Some l
+unfolding r.jump_loop
+outer_known m l None ls is goes = absurd (true≢false (ap is_some is))
+outer_known m l (Some x) ls is goes =
+    let same : m ≡ capped x = ap (λ z. unwrap_or z 0) is in
+    goes x (omega (arith, same))
+
+some_goes : (m : ℕ) (o : Option ℕ) (ls : List ℕ) → o ≡ outermost m ls → IfSome o (λ l. (x : ℕ) → m ≤ x → r.loop_at x ls ≡ Some l)
+some_goes m None ls is = tt
+some_goes m (Some l) ls is = λ x le. subst (λ o. IfSome o (λ l. r.loop_at x ls ≡ Some l)) (sym is) (outer_goes m x ls le)
+
+pub outer_read : (m : ℕ) (o : Option ℕ) (ls : List ℕ) (ts : List Static) → Some m ≡ option_map capped (first_by ts) → o ≡ outermost m ls
+    → IfSome o (λ l. (ws : List Word) → map static_of ws ≡ ts → r.jump_loop (first_number ws) ls ≡ Some l)
+outer_read m None ls ts is goes = tt
+outer_read m (Some l) ls ts is goes = λ ws same.
+    outer_known m l (first_number ws) ls (is ∙ ap (option_map capped) (ap first_by (sym same) ∙ first_words ws)) (some_goes m (Some l) ls goes)
 
 -- Jumps
 

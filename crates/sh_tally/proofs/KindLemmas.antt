@@ -1,5 +1,6 @@
 -- What a walk over commands for their counts adds, by what they are.
-use Rattle.std.proofs.Common.{◌≡◌, ℕ, if◌then◌else◌, List, [], ◌∷◌, ◌++◌, Option, Some, option_map, refl, sym, ap, ◌∙◌, subst}
+use Rattle.std.proofs.Common.{◌≡◌, ℕ, Bool, false, ◌||◌, if◌then◌else◌, List, [], ◌∷◌, ◌++◌, codes, Option, Some, option_map, refl, sym, ap, ap₂, ◌∙◌, subst}
+use Rattle.std.specs.List.{list_any}
 use Rattle.sh_tree.specs.declared.tree.Branch.{Branch, out-Branch}
 use Rattle.sh_tree.specs.declared.tree.Clause.{Clause, out-Clause}
 use Rattle.sh_tree.specs.declared.tree.ClauseEnd.{ClauseEnd}
@@ -7,10 +8,12 @@ use Rattle.sh_tree.specs.declared.tree.ClauseEnd.TheVariants as clause
 use Rattle.sh_tree.specs.declared.tree.Command.{Command, out-Command}
 use Rattle.sh_tree.specs.declared.tree.Kind.{Kind}
 use Rattle.sh_tree.specs.declared.tree.Script.{Script}
+use Rattle.sh_tree.specs.declared.tree.Word.{Word}
 use Rattle.sh_tree.specs.Lists.{branches_from, clauses_from, words_from}
 use Rattle.sh_tree.specs.standard.program.Syntax as p
 use Rattle.sh_tree.specs.standard.program.Syntax.{Text}
 use Rattle.sh_tree.specs.standard.program.Trees as trees
+use Rattle.sh_tree.specs.standard.program.Words.{is_plainly, words_in}
 use Rattle.sh_tree.proofs.ProgramRules as rules
 use Rattle.sh_domain.specs.declared.rule.FlowRule.{FlowRule}
 use Rattle.sh_domain.specs.declared.rule.FlowRule.TheVariants.{F6, F9, F13}
@@ -24,6 +27,8 @@ use Rattle.sh_domain.specs.Rules.{Constraint, bound, bounds, functions_of, leave
 use Rattle.sh_domain.specs.Views as views
 use Rattle.sh_domain.specs.Views.{Before, Seen}
 use Rattle.sh_domain.proofs.EachLemmas.{each_parts}
+use Rattle.sh_rules.specs.Tells.{has_star, is_star}
+use Rattle.sh_rules.proofs.TellLemmas.{star_of_parts}
 use Rattle.sh_counts.specs.declared.equations.Change.TheVariants.{Raise}
 use Rattle.sh_counts.specs.declared.equations.Count.{Count}
 use Rattle.sh_counts.specs.declared.equations.Equations.{Equations}
@@ -34,9 +39,26 @@ use Rattle.sh_tally.specs.declared.views.After.{After}
 use Rattle.sh_tally.specs.declared.views.Views.{Views}
 use Rattle.sh_tally.specs.Tallies.{AreBounds, Tallies}
 use Rattle.sh_tally.specs.Views.{function_index, command_index, index_of}
-use Rattle.sh_tally.specs.Walks.{AddsBranch, AddsBranches, AddsClause, AddsClauses, AddsCommand, AddsFrom, AddsFunction, AddsKind, AddsLeaves, AddsOtherwise, AreKept, HasTexts, IsPart, Keeps, Passes, Sight, SightAfter, names}
-use Rattle.sh_tally.proofs.ViewLemmas.{raised_see, see_defined, see_left}
+use Rattle.sh_tally.specs.Walks.{AddsBranch, AddsBranches, AddsClause, AddsClauses, AddsCommand, AddsFrom, AddsFunction, AddsKind, AddsLeaves, AddsOtherwise, AddsUnmatched, AreKept, HasTexts, IsPart, Keeps, Passes, Sight, SightAfter, falling, names}
+use Rattle.sh_tally.proofs.ViewLemmas.{raised_see, see_defined, see_left, see_right}
 use Rattle.sh_tally.proofs.WalkLemmas.{Unbroken, first_part, last_part, part_kept, place_bounds}
+
+-- `case`
+
+falls_same : (end : ClauseEnd) (o : views.After) → views.in_any_case (falling end o) ≡ e.falls end o
+unfolding falling views.in_any_case e.falls
+falls_same clause.Break o = refl
+falls_same clause.FallThrough o = refl
+
+patterns_same : (b : Text) (ws : List Word) → list_any (is_plainly (codes "*")) (words_in (words_from b ws)) ≡ list_any (λ w. is_star b w.parts) ws
+unfolding words_in words_from
+patterns_same b [] = refl
+patterns_same b (w ∷ ws) = ap₂ (λ x y. x || y) (star_of_parts b w.parts) (patterns_same b ws)
+
+always_same : (b : Text) (cs : List Clause) → r.matches_always (clauses_from b cs) ≡ list_any (has_star b) cs
+unfolding r.matches_always clauses_from
+always_same b [] = refl
+always_same b (c ∷ cs) = ap₂ (λ x y. x || y) (patterns_same b (out-Clause c).patterns) (always_same b cs)
 
 -- A command
 
@@ -212,50 +234,87 @@ module _ (s : Tally) (y : Around) where
 
     -- `case`
 
-    pub record ClausesAt (t : p.Items) (u : ℕ → ℕ) (k : Keeps s t u) (q : Seen) (old : Equations) (rest : List Clause) (now : Equations) : Type 0 where
-      pub fallen : Seen
-      pub part : IsPart t (e.clauses_entered y q fallen (clauses_from s.script.now rest))
-      pub kept : AreKept s t u k (r.clauses_bounds n q fallen (clauses_from s.script.now rest))
+    pub record ClausesAt (t : p.Items) (u : ℕ → ℕ) (k : Keeps s t u) (q : Seen) (old : Equations) (rest : List Clause) (now : Equations) (left : After) : Type 0 where
+      pub into : views.After
+      pub sight : SightAfter s into left
+      pub part : IsPart t (e.clauses_entered y q (views.in_any_case into) (clauses_from s.script.now rest))
+      pub kept : AreKept s t u k (r.clauses_bounds n q (views.in_any_case into) (clauses_from s.script.now rest))
+      -- what the last clause leaves that would go on with a next one
+      pub out : views.After
+      pub last : SightAfter s out left
+      pub ended : clauses_from s.script.now rest ≡ p.no_clauses → AreKept s t u k (r.leaves n F9 out)
       pub tallies : Tallies s.places u old now
 
-    pub record ClausesLeft (known : Views) (all : List Clause) (old : Equations) (rest : List Clause) (now : Equations) : Type 0 where
+    pub record ClausesLeft (known : Views) (all : List Clause) (old : Equations) (rest : List Clause) (now : Equations) (left : After) : Type 0 where
       pub adds : (t : p.Items) (u : ℕ → ℕ) (q fallen : Seen) (k : Keeps s t u) → Sight s q known → IsPart t (e.clauses_entered y q fallen (clauses_from s.script.now all))
-          → AreKept s t u k (r.clauses_bounds n q fallen (clauses_from s.script.now all)) → ClausesAt t u k q old rest now
+          → AreKept s t u k (r.clauses_bounds n q fallen (clauses_from s.script.now all)) → ClausesAt t u k q old rest now left
 
-    pub clauses_begun : (known : Views) (all : List Clause) (old : Equations) → ClausesLeft known all old all old
-    clauses_begun known all old = record { adds = λ t u q fallen k sight part kept. record { fallen = fallen; part = part; kept = kept; tallies = λ x. x } }
+    none_left : (d : _) (c : _) → Each (Unbroken d c) (r.leaves n F9 (views.Both []))
+    unfolding Each views.if_zero views.if_nonzero
+    none_left d c = tt
 
-    last_kept : (d : _) (c : _) (end : ClauseEnd) (rest : p.Clauses) (ks : List Constraint) → Each (Unbroken d c) (if r.is_last end rest then ks else []) → end ≡ clause.Break → Each (Unbroken d c) ks
+    pub clauses_begun : (known : Views) (all : List Clause) (old : Equations) (left : After) → ((q : Seen) → SightAfter s (views.Both q) left) → ClausesLeft known all old all old left
+    unfolding views.in_any_case
+    clauses_begun known all old left none = record {
+      adds = λ t u q fallen k sight part kept. record {
+        into = views.Both fallen;
+        sight = none fallen;
+        part = part;
+        kept = kept;
+        out = views.Both [];
+        last = none [];
+        ended = λ is. none_left k.known k.claims;
+        tallies = λ x. x;
+      };
+    }
+
+    break_kept : (d : _) (c : _) (end : ClauseEnd) (rest : p.Clauses) (ks : List Constraint) → Each (Unbroken d c) (if r.is_last end rest then ks else []) → end ≡ clause.Break → Each (Unbroken d c) ks
     unfolding r.is_last
-    last_kept d c end rest ks kept is = subst (λ m. Each (Unbroken d c) (if r.is_last m rest then ks else [])) is kept
+    break_kept d c end rest ks kept is = subst (λ m. Each (Unbroken d c) (if r.is_last m rest then ks else [])) is kept
 
-    pub clauses_next : (known : Views) (all : List Clause) (old mid new : Equations) (x : Clause) (xs : List Clause) → ClausesLeft known all old (x ∷ xs) mid
-        → AddsClause s y n (trees.script_of s.script.now (out-Clause x).body) (out-Clause x).end known mid new → ClausesLeft known all old xs new
+    last_kept : (d : _) (c : _) (end : ClauseEnd) (rest : p.Clauses) (o : views.After) → Each (Unbroken d c) (if r.is_last end rest then r.leaves n F9 o else []) → rest ≡ p.no_clauses → Each (Unbroken d c) (r.leaves n F9 (falling end o))
+    unfolding r.is_last falling
+    last_kept d c clause.Break rest o kept is = none_left d c
+    last_kept d c clause.FallThrough rest o kept is = subst (λ z. Each (Unbroken d c) (if r.is_last clause.FallThrough z then r.leaves n F9 o else [])) is kept
+
+    pub clauses_next : (known fallen both : Views) (all : List Clause) (old mid new : Equations) (x : Clause) (xs : List Clause) (left after : After) → ClausesLeft known all old (x ∷ xs) mid left
+        → ((o : views.After) → SightAfter s o left → Sight s (views.in_any_case o) fallen) → ((q : Seen) → Sight s q known → Sight s q fallen → Sight s q both)
+        → AddsClause s y n (trees.script_of s.script.now (out-Clause x).body) (out-Clause x).end both mid new
+        → ((q : Seen) → Sight s q both → SightAfter s (falling (out-Clause x).end (e.items_after (views.Both q) (trees.script_of s.script.now (out-Clause x).body))) after)
+        → ClausesLeft known all old xs new after
     unfolding e.items_entered r.clauses_bounds clauses_from
-    clauses_next known all old mid new x xs before adds = record {
-      adds = λ t u q fallen k sight part kept.
-          let at = before.adds t u q fallen k sight part kept in
+    clauses_next known fallen both all old mid new x xs left after before any join adds leaves = record {
+      adds = λ t u q from k sight part kept.
+          let at = before.adds t u q from k sight part kept in
           let body : p.Items = trees.script_of s.script.now (out-Clause x).body in
           let end : ClauseEnd = (out-Clause x).end in
-          let both : Seen = q ++ at.fallen in
-          let behind : views.After = e.items_after (views.Both both) body in
+          let into : Seen = views.in_any_case at.into in
+          let seen : Seen = q ++ into in
+          let here : Sight s seen both = join seen (see_left (names s) q into known sight) (see_right (names s) q into fallen (any at.into at.sight)) in
+          let behind : views.After = e.items_after (views.Both seen) body in
           let patterns : List Entered = e.patterns_entered q (words_from s.script.now (out-Clause x).patterns) in
-          let first : List Entered = e.items_entered F9 y (views.Both both) body in
+          let first : List Entered = e.items_entered F9 y (views.Both seen) body in
           let rest : List Entered = e.clauses_entered y q (e.falls end behind) (clauses_from s.script.now xs) in
           let ends : List Constraint = if r.is_last end (clauses_from s.script.now xs) then r.leaves n F9 behind else [] in
           let parts = each_parts (Unbroken k.known k.claims) ends (r.clauses_bounds n q (e.falls end behind) (clauses_from s.script.now xs)) at.kept in
           let own : IsPart t first = last_part t patterns first (first_part t (patterns ++ first) rest at.part) in
           record {
-            fallen = e.falls end behind;
-            part = last_part t (patterns ++ first) rest at.part;
-            kept = parts.1;
-            tallies = λ tallied.
-                adds t u both k (see_left (names s) q at.fallen known sight) own (last_kept k.known k.claims end (clauses_from s.script.now xs) (r.leaves n F9 behind) parts.0) (at.tallies tallied);
+            into = falling end behind;
+            sight = leaves seen here;
+            part = subst (λ z. IsPart t (e.clauses_entered y q z (clauses_from s.script.now xs))) (sym (falls_same end behind)) (last_part t (patterns ++ first) rest at.part);
+            kept = subst (λ z. AreKept s t u k (r.clauses_bounds n q z (clauses_from s.script.now xs))) (sym (falls_same end behind)) parts.1;
+            out = falling end behind;
+            last = leaves seen here;
+            ended = last_kept k.known k.claims end (clauses_from s.script.now xs) behind parts.0;
+            tallies = λ tallied. adds t u seen k here own (break_kept k.known k.claims end (clauses_from s.script.now xs) (r.leaves n F9 behind) parts.0) (at.tallies tallied);
           };
     }
 
-    pub clauses_added : (known : Views) (all : List Clause) (old new : Equations) → ClausesLeft known all old [] new → AddsClauses s y n (clauses_from s.script.now all) known old new
-    clauses_added known all old new before t u q fallen k sight part kept = (before.adds t u q fallen k sight part kept).tallies
+    pub clauses_added : (known : Views) (all : List Clause) (old mid new : Equations) (left : After) → ClausesLeft known all old [] mid left → AddsLeaves s n left mid new → AddsClauses s y n (clauses_from s.script.now all) known old new
+    unfolding clauses_from
+    clauses_added known all old mid new left before more t u q fallen k sight part kept tallied =
+        let at = before.adds t u q fallen k sight part kept in
+        more t u k F9 at.out at.last (at.ended refl) (at.tallies tallied)
 
     pub ended_clause : (body : p.Items) (end : ClauseEnd) (known : Views) (after : After) (old mid new : Equations) → end ≡ clause.Break → ((by : FlowRule) → AddsFrom s (λ q. e.items_entered by y (views.Both q) body) known old mid)
         → ((q : Seen) → Sight s q known → SightAfter s (e.items_after (views.Both q) body) after) → AddsLeaves s n after mid new → AddsClause s y n body end known old new
@@ -264,13 +323,31 @@ module _ (s : Tally) (y : Around) where
     pub fallen_clause : (body : p.Items) (end : ClauseEnd) (known : Views) (old mid : Equations) → ((by : FlowRule) → AddsFrom s (λ q. e.items_entered by y (views.Both q) body) known old mid) → AddsClause s y n body end known old mid
     fallen_clause body end known old mid adds t u q k sight part kept tallied = adds F9 t u q k sight part tallied
 
-    pub case_kind : (w : p.Word) (cs : p.Clauses) (inside behind : Views) (old mid new : Equations) → Passes s (λ q. e.word_entered q w) (word_gains w) inside behind old mid → AddsClauses s y n cs behind mid new
-        → AddsKind s y n (p.Case w cs) inside old new
+    -- what a clause hands on
+    pub nothing_falls : (end : ClauseEnd) (o : views.After) (left : After) → end ≡ clause.Break → SightAfter s (views.Both []) left → SightAfter s (falling end o) left
+    unfolding falling
+    nothing_falls end o left is none = subst (λ m. SightAfter s (falling m o) left) (sym is) none
+
+    pub all_falls : (end : ClauseEnd) (o : views.After) (left : After) → end ≡ clause.FallThrough → SightAfter s o left → SightAfter s (falling end o) left
+    unfolding falling
+    all_falls end o left is sight = subst (λ m. SightAfter s (falling m o) left) (sym is) sight
+
+    pub unmatched_added : (cs : List Clause) (always : Bool) (known : Views) (place : Count) (old new : Equations) → always ≡ list_any (has_star s.script.now) cs → always ≡ false → place.index ≡ command_index part.Zero n
+        → ((u : ℕ → ℕ) → AreBounds s.places u place (Raise 0) known → Tallies s.places u old new) → AddsUnmatched s n (clauses_from s.script.now cs) known old new
+    unmatched_added cs always known place old new is none at asks t u q k sight kept =
+        let all : AreKept s t u k (bound (views.AfterZero n) n F9 q) =
+        subst (λ m. AreKept s t u k (if m then [] else bound (views.AfterZero n) n F9 q)) (always_same s.script.now cs ∙ sym is ∙ none) kept in
+        asks u (place_bounds s t u k (views.AfterZero n) place n F9 q known (zero_index n place at) all sight)
+
+    pub case_kind : (w : p.Word) (cs : p.Clauses) (inside behind : Views) (old mid next new : Equations) → Passes s (λ q. e.word_entered q w) (word_gains w) inside behind old mid → AddsClauses s y n cs behind mid next
+        → AddsUnmatched s n cs behind next new → AddsKind s y n (p.Case w cs) inside old new
     unfolding e.items_entered r.kind_bounds
-    case_kind w cs inside behind old mid new word adds t u q k sight part kept tallied =
+    case_kind w cs inside behind old mid next new word adds more t u q k sight part kept tallied =
         let first : List Entered = e.word_entered q w in
         let rest : List Entered = e.clauses_entered y (views.gaining (word_gains w) q) [] cs in
         let left : List Constraint = r.clauses_bounds n (views.gaining (word_gains w) q) [] cs in
         let own = each_parts (Unbroken k.known k.claims) left (if r.matches_always cs then [] else bound (views.AfterZero n) n F9 (views.gaining (word_gains w) q)) kept in
-        adds t u (views.gaining (word_gains w) q) [] k (raised_see (names s) q (word_gains w) inside behind word.gained sight) (last_part t first rest part) own.0
-        (word.adds t u q k sight (first_part t first rest part) tallied)
+        let seen : Sight s (views.gaining (word_gains w) q) behind = raised_see (names s) q (word_gains w) inside behind word.gained sight in
+        more t u (views.gaining (word_gains w) q) k seen own.1
+        (adds t u (views.gaining (word_gains w) q) [] k seen (last_part t first rest part) own.0
+        (word.adds t u q k sight (first_part t first rest part) tallied))

@@ -56,7 +56,7 @@ use Rattle.sh_tally.specs.declared.views.Views.{Views}
 use Rattle.sh_tally.specs.Counts.{AllPass, HasAtMost, Passes, all_made, made_by, shift_step}
 use Rattle.sh_tally.specs.Tallies.{AreBounds, Bounds, Tallies}
 use Rattle.sh_tally.specs.Views.{Sees, command_index, function_index, index_of}
-use Rattle.sh_tally.specs.Walks.{AddsFunction, AddsLeaves, AddsManner, AddsReturn, AddsSimple, AreKept, AreTexts, IsBehind, IsReached, Keeps, Sight, SightAfter, names}
+use Rattle.sh_tally.specs.Walks.{AddsFailed, AddsFunction, AddsLeaves, AddsManner, AddsReturn, AddsSimple, AreKept, AreTexts, IsBehind, IsReached, Keeps, Sight, SightAfter, names}
 use Rattle.sh_tally.proofs.CountLemmas.{views_bound_counts, within_at_most}
 use Rattle.sh_tally.proofs.ViewLemmas.{made_then, map_middle, pass_then, see_lost, see_named, see_right}
 use Rattle.sh_tally.proofs.WalkLemmas.{count_at_most, count_below, entered_within, place_bounds}
@@ -383,9 +383,21 @@ module _ (s : Tally) (y : Around) (n : ℕ) (es : p.Elements) (left : Views) whe
     unfolding table.after_utility views.if_nonzero
     exec_failed place is = nonzero_added (kind.Special known.Exec) ws place old new is settled_sight
 
-    pub true_added : (place : count.Count) → place.index ≡ command_index part.Zero n → ((u : ℕ → ℕ) → AreBounds s.places u place (Raise 0) left → Tallies s.places u old new) → Added kind.True
+    true_nonzero : is_redirected (redirects_in es) ≡ true → IsBehind s n es left → Sight s (views.if_nonzero (left_by kind.True ws)) left
+    unfolding table.after_utility views.if_nonzero
+    true_nonzero one here = subst (λ b. Sight s (if b then behind else views.anything) left) (sym one) here.words
+
+    true_zero : IsBehind s n es left → Sight s (views.if_zero (left_by kind.True ws)) left
     unfolding table.after_utility views.if_zero
-    true_added place is = zero_added kind.True ws place old new is (λ here. here.words)
+    true_zero here = here.words
+
+    -- it fails if a redirection does
+    pub true_added : (mid : Equations) (place : count.Count) → place.index ≡ command_index part.Zero n → ((u : ℕ → ℕ) → AreBounds s.places u place (Raise 0) left → Tallies s.places u old mid)
+        → AddsFailed s n es left mid new → Added kind.True
+    true_added mid place is first second t u k here kept tallied =
+        second u
+        (λ one other at. place_bounds s t u k (views.AfterNonzero n) other n F4 _ left (nonzero_index other at) (nonzero_kept t u k F4 (left_by kind.True ws) (utility_kept t u k kind.True ws kept)) (true_nonzero one here))
+        (zero_added kind.True ws place old mid is true_zero first t u k here kept tallied)
 
     pub false_added : (place : count.Count) → place.index ≡ command_index part.Nonzero n → ((u : ℕ → ℕ) → AreBounds s.places u place (Raise 0) left → Tallies s.places u old new) → Added kind.False
     unfolding table.after_utility views.if_nonzero
@@ -494,7 +506,8 @@ module _ (s : Tally) (y : Around) (n : ℕ) (es : p.Elements) (left : Views) whe
       → AreKept s t u k (bound (views.Entry f) n F14 (views.gaining_names (prefixes es) (stepped (Count (total ws)) behind)))
       × AreKept s t u k (bound (views.AfterZero n) n F14 (stepped (views.Call f (views.ReturnsZero f) (prefixes es)) behind))
       × AreKept s t u k (bound (views.AfterNonzero n) n F14 (stepped (views.Call f (views.ReturnsNonzero f) (prefixes es)) behind))
-  unfolding simple_bounds r.call_bounds
+      × AreKept s t u k (if is_redirected (redirects_in es) then bound (views.AfterNonzero n) n F14 behind else [])
+  unfolding simple_bounds r.call_bounds r.where_redirected
   call_parts t u k f ws kept =
       let first : List Constraint = bound (views.Entry f) n F14 (views.gaining_names (prefixes es) (stepped (Count (total ws)) behind)) in
       let second : List Constraint = bound (views.AfterZero n) n F14 (stepped (views.Call f (views.ReturnsZero f) (prefixes es)) behind) in
@@ -503,22 +516,25 @@ module _ (s : Tally) (y : Around) (n : ℕ) (es : p.Elements) (left : Views) whe
       let c = each_parts (Unbroken s t u k) (first ++ second ++ third) fourth kept in
       let b = each_parts (Unbroken s t u k) (first ++ second) third c.0 in
       let a = each_parts (Unbroken s t u k) first second b.0 in
-      (a.0, a.1, b.1)
+      (a.0, a.1, b.1, c.1)
 
-  pub call_added : (f : Text) (c : Change) (success failure : count.Count) (old one two new : Equations) → ((m l : ℕ) → m ≤ l → counted_by (total (behind_name es)) m ≤ made c l)
+  pub call_added : (f : Text) (c : Change) (success failure : count.Count) (old one two three new : Equations) → ((m l : ℕ) → m ≤ l → counted_by (total (behind_name es)) m ≤ made c l)
       → success.index ≡ command_index part.Zero n → failure.index ≡ command_index part.Nonzero n
-      → AddsFunction s end.Entered f left c old one → AddsReturn s success end.Zero f left one two → AddsReturn s failure end.Nonzero f left two new
-      → AddsManner s y n es left (table.Call f (behind_name es)) old new
-  call_added f c success failure old one two new more at_zero at_nonzero first second third t u k here kept =
+      → AddsFunction s end.Entered f left c old one → AddsReturn s success end.Zero f left one two → AddsReturn s failure end.Nonzero f left two three
+      → AddsFailed s n es left three new → AddsManner s y n es left (table.Call f (behind_name es)) old new
+  call_added f c success failure old one two three new more at_zero at_nonzero first second third fourth t u k here kept =
       let ws : List Word = behind_name es in
       let parts = call_parts t u k f ws kept in
       λ tallied.
-      third u (λ reached. change_bounds s t u k (views.AfterNonzero n) failure n F14 behind _ (Raise 0) left (nonzero_index failure at_nonzero) parts.2
+      fourth u
+      (λ redirected place is. place_bounds s t u k (views.AfterNonzero n) place n F14 behind left (nonzero_index place is)
+      (subst (λ b. AreKept s t u k (if b then bound (views.AfterNonzero n) n F14 behind else [])) redirected parts.3) here.words)
+      (third u (λ reached. change_bounds s t u k (views.AfterNonzero n) failure n F14 behind _ (Raise 0) left (nonzero_index failure at_nonzero) parts.2
       (λ h. stepped_makes s t u k behind (views.Call f (views.ReturnsNonzero f) (prefixes es)) h (Raise 0) (nonzero_reached t u k f (prefixes es) reached) (call_made f (views.ReturnsNonzero f) (prefixes es))) here.words)
       (second u (λ reached. change_bounds s t u k (views.AfterZero n) success n F14 behind _ (Raise 0) left (zero_index success at_zero) parts.1
       (λ h. stepped_makes s t u k behind (views.Call f (views.ReturnsZero f) (prefixes es)) h (Raise 0) (zero_reached t u k f (prefixes es) reached) (call_made f (views.ReturnsZero f) (prefixes es))) here.words)
       (first u (λ place at. change_bounds s t u k (views.Entry f) place n F14 behind _ c left (entry_index f place at) parts.0
-      (λ h sees. named_makes s t u k (stepped (Count (total ws)) behind) (named (prefixes es)) h c refl (stepped_makes s t u k behind (Count (total ws)) h c (count_passes t u k (total ws)) (count_made ws c more) sees)) here.words) tallied))
+      (λ h sees. named_makes s t u k (stepped (Count (total ws)) behind) (named (prefixes es)) h c refl (stepped_makes s t u k behind (Count (total ws)) h c (count_passes t u k (total ws)) (count_made ws c more) sees)) here.words) tallied)))
 
 -- By the texts of the words
 

@@ -1,12 +1,12 @@
 -- What a walk over a script for its counts does. It adds equations, and each certificate that keeps
 -- the flow rules solves them. It leaves views of what is known after what it went over.
 -- POSIX.1-2024, XCU 2.5.1 (positional parameters), 2.9 (shell commands).
-use Rattle.std.specs.Prelude.{◌≡◌, ℕ, ◌≤◌, max, map, option_map, List, Some, [], ◌∷◌, ◌++◌, flat_map}
+use Rattle.std.specs.Prelude.{◌≡◌, ℕ, ◌-◌, ◌≤◌, nat_le, max, map, option_map, true, if◌then◌else◌, List, Option, None, Some, [], ◌∷◌, ◌++◌, flat_map}
 use Rattle.sh_tree.specs.declared.tree.ClauseEnd.{ClauseEnd}
 use Rattle.sh_tree.specs.declared.tree.ClauseEnd.TheVariants as clause
 use Rattle.sh_tree.specs.standard.program.Syntax as p
 use Rattle.sh_tree.specs.standard.program.Syntax.{Text}
-use Rattle.sh_tree.specs.standard.program.Words.{assignments_in, operands_in, static_of}
+use Rattle.sh_tree.specs.standard.program.Words.{assignments_in, operands_in, redirects_in, static_of}
 use Rattle.sh_table.specs.Calls.{texts_with}
 use Rattle.sh_table.specs.standard.runs.Environment.{is_one_of}
 use Rattle.sh_domain.specs.declared.rule.FlowRule.{FlowRule}
@@ -18,10 +18,10 @@ use Rattle.sh_domain.specs.Faults.{broken}
 use Rattle.sh_domain.specs.Gains.{Gains, words_gains}
 use Rattle.sh_domain.specs.Inclusions.{Each}
 use Rattle.sh_domain.specs.Names.{number_of}
-use Rattle.sh_domain.specs.Rules.{Constraint, bound, branches_bounds, clauses_bounds, functions_of, kind_bounds, leaves, otherwise_bounds, redirects_bounds, script_bounds, simple_bounds}
-use Rattle.sh_domain.specs.Table.{Manner, behind_words, manner, operands, redirections_gains, values_gains}
+use Rattle.sh_domain.specs.Rules.{Constraint, bound, branches_bounds, clauses_bounds, functions_of, kind_bounds, leaves, matches_always, otherwise_bounds, redirects_bounds, script_bounds, simple_bounds}
+use Rattle.sh_domain.specs.Table.{Manner, behind_words, is_redirected, manner, operands, redirections_gains, values_gains}
 use Rattle.sh_domain.specs.Views as views
-use Rattle.sh_domain.specs.Views.{Before, Certificate, Head, Seen, Slot}
+use Rattle.sh_domain.specs.Views.{AfterZero, Before, Certificate, Head, Seen, Slot}
 use Rattle.sh_counts.specs.declared.equations.Change.{Change}
 use Rattle.sh_counts.specs.declared.equations.Change.TheVariants.{Raise}
 use Rattle.sh_counts.specs.declared.equations.Count.{Count}
@@ -29,10 +29,11 @@ use Rattle.sh_counts.specs.declared.equations.Equations.{Equations}
 use Rattle.sh_counts.specs.Equations.{worth}
 use Rattle.sh_tally.specs.declared.bounds.Tally.{Tally}
 use Rattle.sh_tally.specs.declared.places.End.{End}
+use Rattle.sh_tally.specs.declared.places.Part.TheVariants as part
 use Rattle.sh_tally.specs.declared.views.After.{After}
 use Rattle.sh_tally.specs.declared.views.Views.{Views}
 use Rattle.sh_tally.specs.Tallies.{AreBounds, Tallies, claimed}
-use Rattle.sh_tally.specs.Views.{Raised, See, SeeAfter, function_index, index_of}
+use Rattle.sh_tally.specs.Views.{Raised, See, SeeAfter, command_index, function_index, index_of}
 
 -- a run comes there, and so many parameters are sure
 unfoldable pub HasCount : ℕ → Facts → Type 0
@@ -44,6 +45,17 @@ pub record IsPart (t : p.Items) (es : List Entered) : Type 0 where
   pub front : List Entered
   pub back : List Entered
   pub whole : script_entered t ≡ front ++ (es ++ back)
+
+-- the outermost of these loops, if there are no more than so many
+unfoldable pub outermost : ℕ → List ℕ → Option ℕ
+outermost n [] = None
+outermost n (l ∷ []) = Some l
+outermost n (l ∷ m ∷ ls) = if nat_le n 1 then None else outermost (n - 1) (m ∷ ls)
+
+-- what falls from a clause into the next one
+unfoldable pub falling : ClauseEnd → views.After → views.After
+falling clause.Break o = views.Both []
+falling clause.FallThrough o = o
 
 module _ (s : Tally) where
   abbrev pub names : List Text
@@ -170,6 +182,12 @@ module _ (s : Tally) where
       AreTexts n es → (t : p.Items) (u : ℕ → ℕ) (k : Keeps t u) → IsBehind n es left
       → AreKept t u k (simple_bounds y n es (manner (functions_of (script_entered t)) es)) → Tallies s.places u old new
 
+  -- what is added for a simple command if a redirection of it fails
+  abbrev pub AddsFailed : ℕ → p.Elements → Views → Equations → Equations → Type 0
+  AddsFailed n es known old new =
+      (u : ℕ → ℕ) → (is_redirected (redirects_in es) ≡ true → (place : Count) → place.index ≡ command_index part.Nonzero n → AreBounds s.places u place (Raise 0) known)
+      → Tallies s.places u old new
+
   -- what is added for the count at an end of this function
   abbrev pub AddsFunction : End → Text → Views → Change → Equations → Equations → Type 0
   AddsFunction end name known change old new =
@@ -214,6 +232,11 @@ module _ (s : Tally) where
   AddsClauses y n cs known old new =
       (t : p.Items) (u : ℕ → ℕ) (q fallen : Seen) (k : Keeps t u) → Sight q known → IsPart t (entries.clauses_entered y q fallen cs) → AreKept t u k (clauses_bounds n q fallen cs)
       → Tallies s.places u old new
+
+  -- what is added for the `case` n if no clause matches
+  abbrev pub AddsUnmatched : ℕ → p.Clauses → Views → Equations → Equations → Type 0
+  AddsUnmatched n cs known old new =
+      (t : p.Items) (u : ℕ → ℕ) (q : Seen) (k : Keeps t u) → Sight q known → AreKept t u k (if matches_always cs then [] else bound (AfterZero n) n F9 q) → Tallies s.places u old new
 
   -- what is added for the turns of the `for` n, whatever its name is
   abbrev pub AddsTurns : entries.Around → ℕ → p.Items → Views → Equations → Equations → Type 0

@@ -11,20 +11,41 @@ ghost use Rattle.sh_domain.specs.Rules as rules;
 ghost use Rattle.sh_domain.specs.Table as table;
 ghost use Rattle.sh_rules.specs.Walks as walks;
 ghost use Rattle.sh_rules.specs.Walks.{loops_of};
+ghost use Rattle.sh_tally.specs.Walks as spec;
 ghost use Rattle.sh_tally.specs.Walks.{AddsManner};
 
 use crate::bounds::Tally;
 use crate::places::Part;
 use crate::views::Views;
 use sh_counts::{Change, Equations};
-use sh_rules::Around;
+use sh_rules::{Around, Loops};
 use sh_table::WordText;
 use sh_tree::Element;
 use sh_utilities::{first_number, jump_loop};
 use std::alloc::AllocError;
 
+// The outermost loop, if there are no more than so many.
+#[tactic(auto, unfolding(sh_rules::specs::Walks::loops_of, crate::specs::Walks::outermost))]
+fn outermost(count: u32, loops: &Loops<'_>) -> Option<u32>
+    ensures { result ≡ spec.outermost count (loops_of loops.now) }
+{
+    match loops {
+        Loops::Outside => None,
+        Loops::Inside(number, outer) => match outer {
+            Loops::Outside => Some(*number),
+            Loops::Inside(_, _) => {
+                if count <= 1 {
+                    None
+                } else {
+                    outermost(count - 1, outer)
+                }
+            }
+        },
+    }
+}
+
 // The loop that a jump goes to, if its operand is known. The greatest number means each greater
-// one too.
+// one too, and then the outermost loop.
 fn loop_of(texts: &[WordText], script: &[u8], around: &Around<'_>) -> Option<u32>
     ensures { IfSome result (λ number. (ws : List Word) → map static_of ws ≡ map (text_in script.now) texts.now → rules.jump_loop (operands.first_number ws) (loops_of around.now.loops) ≡ Some number) }
 {
@@ -33,7 +54,7 @@ fn loop_of(texts: &[WordText], script: &[u8], around: &Around<'_>) -> Option<u32
             if count < u32::MAX {
                 jump_loop(Some(count), &around.loops)
             } else {
-                None
+                outermost(count, &around.loops)
             }
         }
         None => None,

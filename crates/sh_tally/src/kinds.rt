@@ -9,13 +9,13 @@ ghost use Rattle.sh_tree.specs.declared.tree.Clause.{out-Clause};
 ghost use Rattle.sh_tree.specs.Lists.{branches_from, clauses_from, otherwise_from};
 ghost use Rattle.sh_domain.specs.Entries as entries;
 ghost use Rattle.sh_domain.specs.Views.{Both, Seen, if_nonzero};
-ghost use Rattle.sh_tally.specs.Walks.{AddsBranch, AddsBranches, AddsClause, AddsClauses, AddsKind, AddsOtherwise, Sight};
+ghost use Rattle.sh_tally.specs.Walks.{AddsBranch, AddsBranches, AddsClause, AddsClauses, AddsKind, AddsOtherwise, AddsUnmatched, Sight, SightAfter, falling};
 
 use crate::bounds::Tally;
 use crate::places::Part;
 use crate::views::{After, Views};
 use sh_counts::{Change, Equations};
-use sh_rules::{Around, alone};
+use sh_rules::{Around, alone, matches_always};
 use sh_tree::{Branch, Clause, ClauseEnd, Kind, Script};
 use std::alloc::AllocError;
 
@@ -186,8 +186,8 @@ impl Tally<'_> {
         self.otherwise(equations, around, number, left, otherwise)
     }
 
-    // Goes over a clause of `case`, if this is known after its word. It adds nothing for the
-    // commands in its patterns, and nothing for what falls into the next clause.
+    // Goes over a clause of `case`, if this is known where its list is entered. Returns what is
+    // known where it goes on with the next list. It adds nothing for the commands in its patterns.
     #[cycle(tally)]
     fn clause(
         &self,
@@ -196,16 +196,21 @@ impl Tally<'_> {
         number: u32,
         known: Views,
         clause: &Clause,
-    ) -> Result<(), AllocError>
-        ensures { IfOk result (λ unit. AddsClause self.now (walks.around self.now.script.now around.now) number (trees.script_of self.now.script.now (out-Clause clause.now).body) (out-Clause clause.now).end known equations.old equations.new) }
+    ) -> Result<After, AllocError>
+        ensures adds { IfOk result (λ left. AddsClause self.now (walks.around self.now.script.now around.now) number (trees.script_of self.now.script.now (out-Clause clause.now).body) (out-Clause clause.now).end known equations.old equations.new) }
+        ensures left { IfOk result (λ left. (q : Seen) → Sight self.now q known → SightAfter self.now (falling (out-Clause clause.now).end (entries.items_after (Both q) (trees.script_of self.now.script.now (out-Clause clause.now).body))) left) }
     {
         let after = self.list(equations, around, known, &clause.body)?;
         match clause.end {
-            ClauseEnd::Break => self.leaves(equations, number, after),
-            ClauseEnd::FallThrough => Ok(()),
+            ClauseEnd::Break => {
+                self.leaves(equations, number, after)?;
+                Ok(After::both(Views::NONE))
+            }
+            ClauseEnd::FallThrough => Ok(after),
         }
     }
 
+    // The last clause leaves what the whole does, also if it would go on with a next one.
     #[cycle(tally)]
     fn clauses(
         &self,
@@ -217,10 +222,30 @@ impl Tally<'_> {
     ) -> Result<(), AllocError>
         ensures { IfOk result (λ unit. AddsClauses self.now (walks.around self.now.script.now around.now) number (clauses_from self.now.script.now clauses.now) known equations.old equations.new) }
     {
+        let mut left = After::both(Views::NONE);
         for clause in clauses {
-            self.clause(equations, around, number, known, clause)?;
+            let fallen = left.in_any_case(&self.places);
+            let both = known.and(&self.places, fallen);
+            left = self.clause(equations, around, number, both, clause)?;
         }
-        Ok(())
+        self.leaves(equations, number, left)
+    }
+
+    // If no clause matches whatever the word is, what is known after the word may be left.
+    fn unmatched(
+        &self,
+        equations: &mut Equations,
+        number: u32,
+        known: Views,
+        clauses: &[Clause],
+    ) -> Result<(), AllocError>
+        ensures { IfOk result (λ unit. AddsUnmatched self.now number (clauses_from self.now.script.now clauses.now) known equations.old equations.new) }
+    {
+        if matches_always(clauses, self.script) {
+            Ok(())
+        } else {
+            self.bound(equations, Part::Zero.of(number), known, Change::NONE)
+        }
     }
 
     /// Goes over a `case`, if this is known after its redirections.
@@ -243,6 +268,8 @@ impl Tally<'_> {
             return Ok(());
         };
         let behind = self.word(equations, inside, word)?;
-        self.clauses(equations, around, number, behind, clauses.as_slice())
+        let listed = clauses.as_slice();
+        self.clauses(equations, around, number, behind, listed)?;
+        self.unmatched(equations, number, behind, listed)
     }
 }

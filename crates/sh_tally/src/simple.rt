@@ -1,9 +1,10 @@
 //! The counts after a simple command, and at the entry of the function that it calls
 //! (XCU 2.9.1, 2.15).
 ghost use Rattle.std.specs.Prelude.{◌≡◌, ◌≤◌, ℕ, false, List, None, Some, IfOk, IfSome, map, drop};
+ghost use Rattle.std.specs.List.{list_any};
 ghost use Rattle.sh_tree.specs.Lists.{elements_from};
 ghost use Rattle.sh_tree.specs.standard.program.Syntax.{Word};
-ghost use Rattle.sh_tree.specs.standard.program.Words.{static_of};
+ghost use Rattle.sh_tree.specs.standard.program.Words.{redirects_in, static_of};
 ghost use Rattle.sh_table.specs.declared.kind.Kind.TheVariants as kind;
 ghost use Rattle.sh_tree.specs.declared.known.KnownName.TheVariants as known;
 ghost use Rattle.sh_table.specs.WordTexts.{text_in};
@@ -12,10 +13,11 @@ ghost use Rattle.sh_domain.specs.Table.{manner_of_name};
 ghost use Rattle.sh_domain.specs.Table as table;
 ghost use Rattle.sh_domain.specs.Views.{counted_by};
 ghost use Rattle.sh_counts.specs.Equations.{made};
+ghost use Rattle.sh_rules.specs.Elements as spec;
 ghost use Rattle.sh_rules.specs.TextBounds.{behind_name};
 ghost use Rattle.sh_rules.specs.Walks as walks;
 ghost use Rattle.sh_tally.specs.Counts.{made_by, shift_step};
-ghost use Rattle.sh_tally.specs.Walks.{AddsManner, AddsSimple, names};
+ghost use Rattle.sh_tally.specs.Walks.{AddsFailed, AddsManner, AddsSimple, names};
 
 use crate::bounds::Tally;
 use crate::places::{End, Part};
@@ -71,6 +73,31 @@ fn special_of(of: Kind) -> Option<KnownName>
         Kind::True => None,
         Kind::Utility => None,
     }
+}
+
+#[tactic(auto, unfolding(sh_rules::specs::Elements::redirects))]
+fn redirects(element: &Element) -> bool
+    ensures { result ≡ spec.redirects element.now }
+{
+    match element {
+        Element::Assignment { .. } => false,
+        Element::Word(_) => false,
+        Element::Redirection(_) => true,
+    }
+}
+
+fn any_redirects(elements: &[Element]) -> bool
+    ensures { result ≡ list_any spec.redirects elements.now }
+{
+    elements.iter().any(|element| redirects(element))
+}
+
+// Whether a simple command has redirections.
+#[tactic(auto, using(sh_rules::proofs::ElementLemmas::redirected))]
+fn is_redirected(elements: &[Element]) -> bool
+    ensures { (b : List ℕ) → result ≡ table.is_redirected (redirects_in (elements_from b elements.now)) }
+{
+    any_redirects(elements)
 }
 
 impl Tally<'_> {
@@ -129,7 +156,24 @@ impl Tally<'_> {
         }
     }
 
-    // A call leaves the caller its parameters, if the function returns.
+    // If a redirection fails, what is known before it may be left.
+    fn failed(
+        &self,
+        equations: &mut Equations,
+        number: u32,
+        elements: &[Element],
+        known: Views,
+    ) -> Result<(), AllocError>
+        ensures { IfOk result (λ unit. AddsFailed self.now number (elements_from self.now.script.now elements.now) known equations.old equations.new) }
+    {
+        if is_redirected(elements) {
+            self.bound(equations, Part::Nonzero.of(number), known, Change::NONE)
+        } else {
+            Ok(())
+        }
+    }
+
+    // A call leaves the caller its parameters, if the function returns, or a redirection fails.
     fn call(
         &self,
         equations: &mut Equations,
@@ -151,6 +195,23 @@ impl Tally<'_> {
             name,
             left,
         )?;
+        self.failed(equations, number, elements, left)?;
+        Ok(())
+    }
+
+    // `true` fails only if a redirection does.
+    fn done(
+        &self,
+        equations: &mut Equations,
+        around: &Around<'_>,
+        number: u32,
+        elements: &[Element],
+        left: Views,
+    ) -> Result<(), AllocError>
+        ensures { IfOk result (λ unit. (ws : List Word) → AddsManner self.now (walks.around self.now.script.now around.now) number (elements_from self.now.script.now elements.now) left (table.Utility kind.True ws) equations.old equations.new) }
+    {
+        self.bound(equations, Part::Zero.of(number), left, Change::NONE)?;
+        self.failed(equations, number, elements, left)?;
         Ok(())
     }
 
@@ -171,7 +232,7 @@ impl Tally<'_> {
             Kind::Command => self.leaves(equations, number, After::both(left)),
             Kind::Refused(_) => self.leaves(equations, number, After::both(left)),
             Kind::Utility => self.leaves(equations, number, After::both(left)),
-            Kind::True => self.bound(equations, Part::Zero.of(number), left, Change::NONE),
+            Kind::True => self.done(equations, around, number, elements, left),
             Kind::False => self.bound(equations, Part::Nonzero.of(number), left, Change::NONE),
             Kind::Read => self.leaves(equations, number, After::both(left)),
             Kind::Getopts => self.leaves(equations, number, After::both(left)),

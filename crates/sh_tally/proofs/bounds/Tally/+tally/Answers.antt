@@ -1,4 +1,4 @@
-use Rattle.std.proofs.Common.{Some, None, arith, length, IfOk, ◌≡◌, ◌∷◌, ◌+◌, drop, refl, sym, ap, ◌∙◌, subst}
+use Rattle.std.proofs.Common.{Some, None, arith, length, IfOk, ◌≡◌, [], ◌∷◌, ◌+◌, drop, refl, sym, ap, ◌∙◌, subst}
 use Rattle.std.proofs.lemmas.List.{drop_all}
 use Rattle.std.proofs.lemmas.Result.{IfOk-weaker}
 use Rattle.sh_tree.specs.declared.tree.AndOr.{out-AndOr}
@@ -20,9 +20,9 @@ use Rattle.sh_counts.specs.declared.equations.Change.TheVariants.{Raise}
 use Rattle.sh_tally.specs.declared.places.End.TheVariants as end
 use Rattle.sh_tally.specs.Views.{index_of}
 use Rattle.sh_rules.specs.Walks as walks
-use Rattle.sh_tally.specs.Walks.{Adds, AddsBranches, AddsClauses, AddsCommand, AddsFrom, AddsFunction, AddsKind, AddsRedirects, Leaves, LeavesFrom, Passes, PassesValues, PassesWords, Sight, names}
+use Rattle.sh_tally.specs.Walks.{Adds, AddsBranches, AddsClauses, AddsCommand, AddsFrom, AddsFunction, AddsKind, AddsRedirects, AddsUnmatched, Leaves, LeavesFrom, Passes, PassesValues, PassesWords, Sight, names}
 use Rattle.sh_tally.proofs.IterationLemmas.{ListedPassed, every_kind, listed_begun, listed_kind, listed_next, listed_passed, turns_added}
-use Rattle.sh_tally.proofs.KindLemmas.{BranchesLeft, ClausesLeft, branches_added, branches_next, branches_seen, case_kind, clauses_added, clauses_next, compound_added, conditional_kind, define_added, else_added, ended_clause, fallen_clause, kind_as, no_else_added, otherwise_as}
+use Rattle.sh_tally.proofs.KindLemmas.{BranchesLeft, ClausesLeft, all_falls, branches_added, branches_next, branches_seen, case_kind, clauses_added, clauses_begun, clauses_next, compound_added, conditional_kind, define_added, else_added, ended_clause, fallen_clause, kind_as, no_else_added, nothing_falls, otherwise_as}
 use Rattle.sh_tally.proofs.RedirectLemmas.{RedirectsPassed, command_redirected, redirects_begun, redirects_next, redirects_passed}
 use Rattle.sh_tally.proofs.WordLemmas.{PartsPassed, assignment_values, assignment_words, double_part, expansion_part, file_target, here_target, idle_part, lost_part, operand_values, operand_words, part_as, parts_passed, pieces_next, redirection_values, redirection_words, simple_added, substitution_part, target_as, values_as, values_begun, values_ended, values_next, words_as, words_ended, words_next}
 use Rattle.sh_tally.proofs.WalkLemmas.{ItemsLeft, LinksLeft, PartsLeft, group_kind, loop_kind, one_of, pipe_many_added, pipe_many_left, pipe_one_added, pipe_one_left, subshell_kind, before_index, parts_added, background_added, and_added, and_left, at_index, background_left, foreground_added, foreground_left, items_added, items_left, items_next, links_added, links_left, links_next, list_added, list_leaves, or_added, or_left, parts_next}
@@ -594,37 +594,58 @@ kind-returns-in-Branches t c =
     (λ unit adds. compound_added c.args.self.now (walks.around c.args.self.now.script.now c.args.around.now) c.args.number _ c.args.inside c.args.equations.now c.cases.new.equations adds)
     c.cases.ensures
 
-pub clause-returns-in-Break : goal.clause-returns-in-Break
-clause-returns-in-Break t c =
+pub clause-returns-in_ok-leaves-in-Break-clause-adds : goal.clause-returns-in_ok-leaves-in-Break-clause-adds
+clause-returns-in_ok-leaves-in-Break-clause-adds t c =
     let s = c.args.self.now in
     let b = s.script.now in
     let x = out-Clause c.args.clause.now in
-    IfOk-weaker c.leaves.result _ _
-    (λ unit adds. ended_clause s (walks.around b c.args.around.now) c.args.number (trees.script_of b x.body) x.end c.args.known c.in_ok-after.after c.args.equations.now c.list.new.equations c.leaves.new.equations c.in-Break.is
-    c.in_ok-after.ensures.adds c.in_ok-after.ensures.leaves adds)
-    c.leaves.ensures
+    ended_clause s (walks.around b c.args.around.now) c.args.number (trees.script_of b x.body) x.end c.args.known c.in_ok-after.after c.args.equations.now c.list.new.equations c.leaves.new.equations c.in-Break.is
+    c.in_ok-after.ensures.adds c.in_ok-after.ensures.leaves c.in_ok-leaves-in-Break.ensures
 
-pub clause-returns-in-FallThrough : goal.clause-returns-in-FallThrough
-clause-returns-in-FallThrough t c =
+pub clause-returns-in_ok-leaves-in-Break-clause-left : goal.clause-returns-in_ok-leaves-in-Break-clause-left
+clause-returns-in_ok-leaves-in-Break-clause-left t c =
+    let s = c.args.self.now in
+    let x = out-Clause c.args.clause.now in
+    λ q sight. nothing_falls s (walks.around s.script.now c.args.around.now) c.args.number x.end _ c.both.result c.in-Break.is (c.both.ensures (names s) [] (record { first = tt; second = tt }))
+
+pub clause-returns-in-FallThrough-clause-adds : goal.clause-returns-in-FallThrough-clause-adds
+clause-returns-in-FallThrough-clause-adds t c =
     let s = c.args.self.now in
     let b = s.script.now in
     let x = out-Clause c.args.clause.now in
     fallen_clause s (walks.around b c.args.around.now) c.args.number (trees.script_of b x.body) x.end c.args.known c.args.equations.now c.list.new.equations c.in_ok-after.ensures.adds
 
+pub clause-returns-in-FallThrough-clause-left : goal.clause-returns-in-FallThrough-clause-left
+clause-returns-in-FallThrough-clause-left t c =
+    let s = c.args.self.now in
+    let x = out-Clause c.args.clause.now in
+    λ q sight. all_falls s (walks.around s.script.now c.args.around.now) c.args.number x.end _ c.in_ok-after.after c.in-FallThrough.is (c.in_ok-after.ensures.leaves q sight)
+
+pub clauses-loop-clause-init : goal.clauses-loop-clause-init
+clauses-loop-clause-init t c =
+    let s = c.args.self.now in
+    record { left = clauses_begun s (walks.around s.script.now c.args.around.now) c.args.number c.args.known c.args.clauses.now c.args.equations.now c.both-left.result (λ q. c.both-left.ensures (names s) q (record { first = tt; second = tt })) }
+
 pub clauses-loop-clause-preserved : goal.clauses-loop-clause-preserved
 clauses-loop-clause-preserved t c =
     let s = c.args.self.now in
     let y = walks.around s.script.now c.args.around.now in
-    let here : ClausesLeft s y c.args.number c.args.known c.args.clauses.now c.args.equations.now (c.clause-item.result ∷ drop (c.loop-clause.clause-index + 1) c.args.clauses.now) c.loop-clause.equations =
-    subst (λ cs. ClausesLeft s y c.args.number c.args.known c.args.clauses.now c.args.equations.now cs c.loop-clause.equations) (at_index c.args.clauses.now c.loop-clause.clause-index c.clause-item.result c.loop-clause-test.true c.clause-item.is) c.loop-clause.invariant.left in
-    record { left = clauses_next s y c.args.number c.args.known c.args.clauses.now c.args.equations.now c.loop-clause.equations c.clause.new.equations c.clause-item.result _ here c.in_ok-clause.ensures }
+    let here : ClausesLeft s y c.args.number c.args.known c.args.clauses.now c.args.equations.now (c.clause-item.result ∷ drop (c.loop-clause.clause-index + 1) c.args.clauses.now) c.loop-clause.equations c.loop-clause.left =
+    subst (λ cs. ClausesLeft s y c.args.number c.args.known c.args.clauses.now c.args.equations.now cs c.loop-clause.equations c.loop-clause.left) (at_index c.args.clauses.now c.loop-clause.clause-index c.clause-item.result c.loop-clause-test.true c.clause-item.is) c.loop-clause.invariant.left in
+    record {
+      left = clauses_next s y c.args.number c.args.known c.in_any_case-fallen.result c.and-both.result c.args.clauses.now c.args.equations.now c.loop-clause.equations c.clause.new.equations c.clause-item.result _
+          c.loop-clause.left c.in_ok-left.left here (c.in_any_case-fallen.ensures (names s)) (c.and-both.ensures (names s)) c.in_ok-left.ensures.adds c.in_ok-left.ensures.left;
+    }
 
 pub clauses-returns : goal.clauses-returns
 clauses-returns t c =
     let s = c.args.self.now in
     let y = walks.around s.script.now c.args.around.now in
-    clauses_added s y c.args.number c.args.known c.args.clauses.now c.args.equations.now c.loop-clause.equations
-    (subst (λ cs. ClausesLeft s y c.args.number c.args.known c.args.clauses.now c.args.equations.now cs c.loop-clause.equations) (drop_all c.loop-clause.clause-index c.args.clauses.now c.loop-clause-test.false) c.loop-clause.invariant.left)
+    let here : ClausesLeft s y c.args.number c.args.known c.args.clauses.now c.args.equations.now [] c.loop-clause.equations c.loop-clause.left =
+    subst (λ cs. ClausesLeft s y c.args.number c.args.known c.args.clauses.now c.args.equations.now cs c.loop-clause.equations c.loop-clause.left) (drop_all c.loop-clause.clause-index c.args.clauses.now c.loop-clause-test.false) c.loop-clause.invariant.left in
+    IfOk-weaker c.leaves.result _ _
+    (λ unit adds. clauses_added s y c.args.number c.args.known c.args.clauses.now c.args.equations.now c.loop-clause.equations c.leaves.new.equations c.loop-clause.left here adds)
+    c.leaves.ensures
 
 pub cases-returns : goal.cases-returns
 cases-returns t c =
@@ -633,10 +654,11 @@ cases-returns t c =
     let y = walks.around b c.args.around.now in
     let w = c.in-Branches.word in
     let cs = c.in-Branches.clauses in
-    let more = subst (λ xs. IfOk c.clauses.result (λ unit. AddsClauses s y c.args.number (clauses_from b xs) c.in_ok-behind.behind c.word.new.equations c.clauses.new.equations)) c.as_slice.ensures c.clauses.ensures in
-    IfOk-weaker c.clauses.result _ _
-    (λ unit adds. subst (λ z. AddsKind s y c.args.number z c.args.inside c.args.equations.now c.clauses.new.equations) (sym (ap (trees.kind_of b) c.in-Branches.is ∙ rules.kind_of-Branches b w cs))
-    (case_kind s y c.args.number (parts_from b w.parts) (clauses_from b cs) c.args.inside c.in_ok-behind.behind c.args.equations.now c.word.new.equations c.clauses.new.equations c.in_ok-behind.ensures adds))
+    let adds = subst (λ xs. AddsClauses s y c.args.number (clauses_from b xs) c.in_ok-behind.behind c.word.new.equations c.clauses.new.equations) c.as_slice-listed.ensures c.in_ok-clauses.ensures in
+    let more = subst (λ xs. IfOk c.unmatched.result (λ unit. AddsUnmatched s c.args.number (clauses_from b xs) c.in_ok-behind.behind c.clauses.new.equations c.unmatched.new.equations)) c.as_slice-listed.ensures c.unmatched.ensures in
+    IfOk-weaker c.unmatched.result _ _
+    (λ unit last. subst (λ z. AddsKind s y c.args.number z c.args.inside c.args.equations.now c.unmatched.new.equations) (sym (ap (trees.kind_of b) c.in-Branches.is ∙ rules.kind_of-Branches b w cs))
+    (case_kind s y c.args.number (parts_from b w.parts) (clauses_from b cs) c.args.inside c.in_ok-behind.behind c.args.equations.now c.word.new.equations c.clauses.new.equations c.unmatched.new.equations c.in_ok-behind.ensures adds last))
     more
 
 pub values-loop-element-init : goal.values-loop-element-init

@@ -31,7 +31,7 @@ abbrev pub invariant-values-loop-element : goal.invariant-values-loop-element
 invariant-values-loop-element l = record { left : PassesValues l.self (elements_from l.self.script.now l.elements) (elements_from l.self.script.now (drop l.element-index l.elements)) l.fn.known l.left l.initial.equations l.equations }
 
 abbrev pub invariant-clauses-loop-clause : goal.invariant-clauses-loop-clause
-invariant-clauses-loop-clause l = record { left : ClausesLeft l.self (walks.around l.self.script.now l.around) l.number l.known l.clauses l.initial.equations (drop l.clause-index l.clauses) l.equations }
+invariant-clauses-loop-clause l = record { left : ClausesLeft l.self (walks.around l.self.script.now l.around) l.number l.known l.clauses l.initial.equations (drop l.clause-index l.clauses) l.equations l.left }
 
 abbrev pub invariant-words-loop-word : goal.invariant-words-loop-word
 invariant-words-loop-word l = record { left : ListedPassed l.self (words_from l.self.script.now l.words) (words_from l.self.script.now (drop l.word-index l.words)) l.fn.known l.left l.initial.equations l.equations }

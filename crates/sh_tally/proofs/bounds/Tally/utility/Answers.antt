@@ -4,7 +4,7 @@ use Rattle.sh_tree.specs.Lists.{elements_from}
 use Rattle.sh_domain.specs.Table as table
 use Rattle.sh_rules.specs.Walks as walks
 use Rattle.sh_tally.specs.Walks.{AddsManner, names}
-use Rattle.sh_tally.proofs.SimpleLemmas.{false_added, neutral_added, read_added, true_added}
+use Rattle.sh_tally.proofs.SimpleLemmas.{false_added, neutral_added, read_added}
 use Rattle.sh_tally.proofs.bounds.Tally.utility.Goals as goal
 
 pub returns-in-Cd : goal.returns-in-Cd
@@ -52,20 +52,19 @@ returns-in-True c =
     let s = c.args.self.now in
     let y = walks.around s.script.now c.args.around.now in
     let es = elements_from s.script.now c.args.elements.now in
-    IfOk-weaker c.bound.result _ _
-    (λ unit adds ws. subst (λ k. AddsManner s y c.args.number es c.args.left (table.Utility k ws) c.args.equations.now c.bound.new.equations) (sym c.in-True.is)
-    (true_added s y c.args.number es c.args.left ws c.args.equations.now c.bound.new.equations c.of.result c.of.ensures adds))
-    c.bound.ensures
+    IfOk-weaker c.done.result _ _
+    (λ unit adds ws. subst (λ k. AddsManner s y c.args.number es c.args.left (table.Utility k ws) c.args.equations.now c.done.new.equations) (sym c.in-True.is) (adds ws))
+    c.done.ensures
 
 pub returns-in-False : goal.returns-in-False
 returns-in-False c =
     let s = c.args.self.now in
     let y = walks.around s.script.now c.args.around.now in
     let es = elements_from s.script.now c.args.elements.now in
-    IfOk-weaker c.bound-in-False.result _ _
-    (λ unit adds ws. subst (λ k. AddsManner s y c.args.number es c.args.left (table.Utility k ws) c.args.equations.now c.bound-in-False.new.equations) (sym c.in-False.is)
-    (false_added s y c.args.number es c.args.left ws c.args.equations.now c.bound-in-False.new.equations c.of-in-False.result c.of-in-False.ensures adds))
-    c.bound-in-False.ensures
+    IfOk-weaker c.bound.result _ _
+    (λ unit adds ws. subst (λ k. AddsManner s y c.args.number es c.args.left (table.Utility k ws) c.args.equations.now c.bound.new.equations) (sym c.in-False.is)
+    (false_added s y c.args.number es c.args.left ws c.args.equations.now c.bound.new.equations c.of.result c.of.ensures adds))
+    c.bound.ensures
 
 pub returns-in-Read : goal.returns-in-Read
 returns-in-Read c =
