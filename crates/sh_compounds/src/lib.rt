@@ -5,5 +5,5 @@
 mod bounds;
 mod drops;
 
-pub use bounds::{tell_both, tell_compound, tell_leaves, tell_redirects};
+pub use bounds::{matches_always, tell_both, tell_compound, tell_leaves, tell_redirects};
 pub use drops::tell_drops;
