@@ -172,6 +172,16 @@ def triggers(size):
     return text_of([*lines, "while a; do", *back, "unset -f c0", "done"])
 
 
+def triggers_before(size):
+    """Triggers before utilities, over which each loss goes."""
+    count = max(3, min(200, size // 150))
+    start = [f"c{n}() {{ exit; }}" for n in range(count)]
+    back = [f"a && c{n} && unset -f c{n + 1}" for n in reversed(range(count - 1))]
+    lines = [*start, "while a; do", *back, "unset -f c0"]
+    rest = size - len(text_of(lines)) - len("done\n")
+    return text_of([*lines, *(["b"] * (rest // 2)), "done"])
+
+
 def triggers_by_functions(size):
     count = count_of(size, "c1000() { exit; }\nf1000() { a && c1000 && unset -f c1000; f1000; }", MOST_NAMES // 2)
     lines = [f"c{n}() {{ exit; }}" for n in range(count)]
@@ -467,6 +477,23 @@ BESIDE = {
     "unset": "unset x",
 }
 
+# Loops in which the parameters fall by one each time round: what is before their lines, and after.
+ROUND = {
+    "arithmetic": ("while :; do shift; x=$((x+1))\n", "done\n"),
+    "break far": ("f() { shift; while :; do break 4294967295; done\n", 'f "$@"; }\nf "$@"\n'),
+    "continue far": ("while :; do shift\n", "continue 4294967295; done\n"),
+    "count": ("i=0\nfor x do shift; i=$((i + 1))\n", "done\n"),
+    "fall": ("while :; do case x in a) shift ;& b) : ;; esac\n", "done\n"),
+    "last fall": ("while :; do case x in *) shift ;& esac\n", "done\n"),
+    "operators": ("x=${y-$(while :; do shift\n", "done)}\n"),
+    "patterns": ("case x in $(while :; do shift\n", "done)) ;; esac\n"),
+    "redirected call": ("d() { exit; }\nwhile :; do shift; d >f\n", "done\n"),
+    "redirected true": ("while :; do shift; true >f && break\n", "done\n"),
+    "sums": ("x=$(($(while :; do shift\n", "done)))\n"),
+    "unmatched": ("while :; do shift; case $x in a) exit ;; esac\n", "done\n"),
+    "unsure call": ("a && d() { exit; }\nwhile :; do shift; d\n", "done\n"),
+}
+
 # By its name, how a script is made, and with which options it is read.
 FAMILIES = {
     "shift behind": (shift_behind, ALL_PARAMETERS),
@@ -478,6 +505,9 @@ FAMILIES = {
     "shift words in": (shift_substitutions, ALL_PARAMETERS),
     "shift nested": (shift_nested, ALL_PARAMETERS),
     **{f"shift and {name}": (shift_beside(line), ALL_PARAMETERS) for name, line in BESIDE.items()},
+    **{f"shift round {name}": (of(start, each('echo "$vN"\n'), end), ALL_PARAMETERS) for name, (start, end) in ROUND.items()},
+    "shift by few": (of("while :; do shift; ( set --\n", each("a&"), ") ; done\n"), ALL_PARAMETERS),
+    "shift by calls": (of("f() { shift; ( set --\n", each("a&"), '); f "$@"; }; f "$@"\n'), ALL_PARAMETERS),
     "chain": (chain("in order"), ()),
     "chain back": (chain("reversed"), ()),
     "chain shuffled": (chain("shuffled"), ()),
@@ -490,6 +520,7 @@ FAMILIES = {
     "losing circle": (losing_circle, ()),
     "groups": (groups_in_groups, ()),
     "triggers": (triggers, ()),
+    "triggers before": (triggers_before, ()),
     "trigger circle": (triggers_by_functions, ()),
     "trigger calls": (trigger_calls, ()),
     "told by parts": (told_by_parts, ()),
@@ -530,6 +561,7 @@ def findings_of(text, lines):
 # How often MOST_RATIO a family may take if what it has to find grows faster than its text.
 ROUNDS = {
     "triggers": rounds_of,
+    "triggers before": rounds_of,
     "trigger calls": rounds_of,
     "told by parts": findings_of,
     "told in parts of parts": findings_of,
