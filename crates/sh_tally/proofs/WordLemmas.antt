@@ -1,21 +1,22 @@
 -- What a walk over words for their counts adds, and what it leaves.
-use Rattle.std.proofs.Common.{◌≡◌, ℕ, ◌≤◌, max, Bool, List, [], ◌∷◌, None, refl, sym, ap, ◌∙◌, subst, arith}
+use Rattle.std.proofs.Common.{◌≡◌, ℕ, ◌≤◌, max, Bool, false, true≢false, List, [], ◌∷◌, ◌++◌, append_assoc, Option, refl, sym, ap, ◌∙◌, subst, arith}
 use Rattle.sh_tree.specs.declared.tree.Action.{Action}
 use Rattle.sh_tree.specs.declared.tree.Action.TheVariants as action
+use Rattle.sh_tree.specs.declared.tree.Binary.{Binary}
 use Rattle.sh_tree.specs.declared.tree.Element.{Element}
+use Rattle.sh_tree.specs.declared.tree.Expr.{Expr}
 use Rattle.sh_tree.specs.declared.tree.ParameterOperator.{ParameterOperator}
-use Rattle.sh_tree.specs.declared.tree.ParameterOperator.TheVariants as operator
 use Rattle.sh_tree.specs.declared.tree.Removal.{Removal}
 use Rattle.sh_tree.specs.declared.tree.Span.{Span}
 use Rattle.sh_tree.specs.declared.tree.Special.{Special}
 use Rattle.sh_tree.specs.declared.tree.Special.TheVariants as special
 use Rattle.sh_tree.specs.declared.tree.Subject.{Subject}
 use Rattle.sh_tree.specs.declared.tree.Subject.TheVariants as subject
-use Rattle.sh_tree.specs.declared.tree.Word.{Word}
-use Rattle.sh_tree.proofs.ProgramRules as rules
+use Rattle.sh_tree.specs.declared.tree.Unary.{Unary}
 use Rattle.sh_tree.specs.declared.tree.Part.{Part}
 use Rattle.sh_tree.specs.declared.tree.Target.{Target}
-use Rattle.sh_tree.specs.Lists.{element_from, elements_from, parts_from}
+use Rattle.sh_tree.specs.Lists.{element_from, elements_from, operands_from, parts_from}
+use Rattle.sh_tree.specs.standard.language.Words.{is_alternative}
 use Rattle.sh_tree.specs.standard.program.Syntax as p
 use Rattle.sh_tree.specs.standard.program.Syntax.{Text}
 use Rattle.sh_tree.specs.standard.program.Trees as trees
@@ -23,8 +24,8 @@ use Rattle.sh_tree.specs.standard.program.Words.{assignments_in, operands_in, re
 use Rattle.sh_domain.specs.declared.rule.FlowRule.{FlowRule}
 use Rattle.sh_domain.specs.declared.rule.FlowRule.TheVariants.{F11}
 use Rattle.sh_domain.specs.Entries as e
-use Rattle.sh_domain.specs.Entries.{Around}
-use Rattle.sh_domain.specs.Gains.{Gains, no_gains, operator_gains, part_gains, redirect_gains, redirects_gains, sure, word_gains, words_gains}
+use Rattle.sh_domain.specs.Entries.{Around, Entered}
+use Rattle.sh_domain.specs.Gains.{Gains, and_gains, expanded_gains, no_gains, operands_gains, operator_gains, part_gains, redirect_gains, redirects_gains, sure, word_gains, words_gains}
 use Rattle.sh_domain.specs.Rules as r
 use Rattle.sh_domain.specs.Table.{behind_words, values_gains}
 use Rattle.sh_domain.specs.Views as views
@@ -32,9 +33,9 @@ use Rattle.sh_domain.specs.Views.{Before, Seen, gaining}
 use Rattle.sh_counts.specs.declared.equations.Equations.{Equations}
 use Rattle.sh_tally.specs.declared.bounds.Tally.{Tally}
 use Rattle.sh_tally.specs.declared.views.Views.{Views}
-use Rattle.sh_tally.specs.Views.{Raised}
+use Rattle.sh_tally.specs.Views.{Raised, See}
 use Rattle.sh_tally.specs.Walks.{AddsCommand, AddsFrom, AddsSimple, ElementsAt, HasTexts, IsBehind, IsPart, Keeps, Passes, PassesValues, PassesWords, Sight, names, settled_gains}
-use Rattle.sh_tally.proofs.ViewLemmas.{raised_less, raised_lost, raised_none, raised_see, raised_then, see_started, weaker_see}
+use Rattle.sh_tally.proofs.ViewLemmas.{raised_less, raised_none, raised_see, raised_then, see_started, weaker_see}
 use Rattle.sh_tally.proofs.WalkLemmas.{first_part, last_part}
 
 -- What an expansion sets
@@ -57,47 +58,41 @@ special_args special.Dollar = omega arith
 special_args special.Exclamation = omega arith
 special_args special.Zero = omega arith
 
-set_as : (b : Text) (x v : Subject) (y : p.Parameter) (a : Action) (colon : Bool) (w : p.Word) (n : ℕ) (known left : Views) → x ≡ v → trees.parameter_of b v ≡ y → (sure y).args ≤ n → Raised n known left
-    → Raised (operator_gains (trees.parameter_of b x) (p.Use a colon w)).args known left
-set_as b x v y a colon w n known left is same few h =
-    raised_less n (operator_gains (trees.parameter_of b x) (p.Use a colon w)).args known left
-    (subst (λ z. (operator_gains z (p.Use a colon w)).args ≤ n) (sym (ap (trees.parameter_of b) is ∙ same)) (action_args y n few a colon w)) h
-
-pub name_set : (x : Subject) (sp : Span) (a : Action) (known : Views) → x ≡ subject.Name sp → (b : Text) (colon : Bool) (w : p.Word) → Raised (operator_gains (trees.parameter_of b x) (p.Use a colon w)).args known known
+pub name_set : (x : Subject) (sp : Span) (known : Views) → x ≡ subject.Name sp → (b : Text) → Raised (sure (trees.parameter_of b x)).args known known
 unfolding trees.parameter_of sure
-name_set x sp a known is b colon w = set_as b x (subject.Name sp) _ a colon w 0 known known is refl (omega arith) (raised_none known)
+name_set x sp known is b = subst (λ z. Raised (sure (trees.parameter_of b z)).args known known) (sym is) (raised_none known)
 
-pub special_set : (x : Subject) (c : Special) (sp : Span) (a : Action) (known : Views) → x ≡ subject.Special c sp → (b : Text) (colon : Bool) (w : p.Word) → Raised (operator_gains (trees.parameter_of b x) (p.Use a colon w)).args known known
+pub special_set : (x : Subject) (c : Special) (sp : Span) (known : Views) → x ≡ subject.Special c sp → (b : Text) → Raised (sure (trees.parameter_of b x)).args known known
 unfolding trees.parameter_of
-special_set x c sp a known is b colon w = set_as b x (subject.Special c sp) _ a colon w 0 known known is refl (special_args c) (raised_none known)
+special_set x c sp known is b =
+    subst (λ z. Raised (sure (trees.parameter_of b z)).args known known) (sym is) (raised_less 0 (sure (p.Special c)).args known known (special_args c) (raised_none known))
 
-pub positional_set : (x : Subject) (n : ℕ) (sp : Span) (a : Action) (known left : Views) → x ≡ subject.Positional n sp → Raised n known left → (b : Text) (colon : Bool) (w : p.Word) → Raised (operator_gains (trees.parameter_of b x) (p.Use a colon w)).args known left
+pub positional_set : (x : Subject) (n : ℕ) (sp : Span) (known left : Views) → x ≡ subject.Positional n sp → Raised n known left → (b : Text) → Raised (sure (trees.parameter_of b x)).args known left
 unfolding trees.parameter_of sure
-positional_set x n sp a known left is h b colon w = set_as b x (subject.Positional n sp) _ a colon w n known left is refl (omega arith) h
+positional_set x n sp known left is h b = subst (λ z. Raised (sure (trees.parameter_of b z)).args known left) (sym is) h
+
+pub set_used : (x : p.Parameter) (a : Action) (known left : Views) → Raised (sure x).args known left → (colon : Bool) (w : p.Word) → Raised (operator_gains x (p.Use a colon w)).args known left
+set_used x a known left h colon w = raised_less (sure x).args (operator_gains x (p.Use a colon w)).args known left (action_args x (sure x).args (omega arith) a colon w) h
 
 pub none_set : (x : Subject) (a : Action) (known : Views) → ((y : p.Parameter) (colon : Bool) (w : p.Word) → operator_gains y (p.Use a colon w) ≡ no_gains) → (b : Text) (colon : Bool) (w : p.Word)
     → Raised (operator_gains (trees.parameter_of b x) (p.Use a colon w)).args known known
 none_set x a known none b colon w = subst (λ (g : Gains). Raised g.args known known) (sym (none (trees.parameter_of b x) colon w)) (raised_none known)
 
-operator_as : (b : Text) (x : Subject) (o v : ParameterOperator) (z : p.Operator) (known left : Views) → o ≡ v → trees.operator_of b v ≡ z → Raised (operator_gains (trees.parameter_of b x) z).args known left
-    → Raised (operator_gains (trees.parameter_of b x) (trees.operator_of b o)).args known left
-operator_as b x o v z known left is same h = subst (λ y. Raised (operator_gains (trees.parameter_of b x) y).args known left) (sym (ap (trees.operator_of b) is ∙ same)) h
+-- What is known in the word after an operator
 
-pub value_operator : (x : Subject) (o : ParameterOperator) (known : Views) → o ≡ operator.Value → (b : Text) → Raised (operator_gains (trees.parameter_of b x) (trees.operator_of b o)).args known known
-unfolding operator_gains
-value_operator x o known is b = operator_as b x o operator.Value p.Value known known is (rules.operator_of-Value b) (raised_none known)
+pub seen_set : (functions : List Text) (a : Action) (y : p.Parameter) (q : Seen) (known left : Views) → Raised (sure y).args known left → See functions q known → See functions (e.operand_seen a y q) left
+unfolding e.operand_seen
+seen_set functions action.Default y q known left h sees = weaker_see functions q (sure y).args known left h sees
+seen_set functions action.Assign y q known left h sees = weaker_see functions q (sure y).args known left h sees
+seen_set functions action.Fault y q known left h sees = weaker_see functions q (sure y).args known left h sees
+seen_set functions action.Alternative y q known left h sees = raised_see functions q (sure y) known left h sees
 
-pub length_operator : (x : Subject) (o : ParameterOperator) (known : Views) → o ≡ operator.Length → (b : Text) → Raised (operator_gains (trees.parameter_of b x) (trees.operator_of b o)).args known known
-unfolding operator_gains
-length_operator x o known is b = operator_as b x o operator.Length p.Length known known is (rules.operator_of-Length b) (raised_none known)
-
-pub remove_operator : (x : Subject) (o : ParameterOperator) (removal : Removal) (w : Word) (known : Views) → o ≡ operator.Remove removal w → (b : Text) → Raised (operator_gains (trees.parameter_of b x) (trees.operator_of b o)).args known known
-unfolding operator_gains
-remove_operator x o removal w known is b = operator_as b x o (operator.Remove removal w) (p.Remove removal (parts_from b w.parts)) known known is (rules.operator_of-Remove b removal w) (raised_none known)
-
-pub use_operator : (x : Subject) (o : ParameterOperator) (a : Action) (colon : Bool) (w : Word) (known left : Views) → o ≡ operator.Use a colon w
-    → ((b : Text) (colon : Bool) (w : p.Word) → Raised (operator_gains (trees.parameter_of b x) (p.Use a colon w)).args known left) → (b : Text) → Raised (operator_gains (trees.parameter_of b x) (trees.operator_of b o)).args known left
-use_operator x o a colon w known left is h b = operator_as b x o (operator.Use a colon w) (p.Use a colon (parts_from b w.parts)) known left is (rules.operator_of-Use b a colon w) (h b colon (parts_from b w.parts))
+pub seen_kept : (functions : List Text) (a : Action) → is_alternative a ≡ false → (y : p.Parameter) (q : Seen) (known : Views) → See functions q known → See functions (e.operand_seen a y q) known
+unfolding e.operand_seen
+seen_kept functions action.Default is y q known sees = sees
+seen_kept functions action.Assign is y q known sees = sees
+seen_kept functions action.Fault is y q known sees = sees
+seen_kept functions action.Alternative is y q known sees = absurd (true≢false is)
 
 module _ (s : Tally) where
   -- The parts of a word
@@ -139,12 +134,15 @@ module _ (s : Tally) where
     pub idle_part : (z : p.Part) → (part_gains z).args ≡ 0 → Passes s (λ q. e.part_entered q z) (part_gains z) known known old old
     idle_part z none = record { adds = λ t u q k sight part tallied. tallied; gained = subst (λ m. Raised m known known) (sym none) (raised_none known) }
 
-    pub lost_part : (z : p.Part) (left : Views) → left.first ≡ None → left.second ≡ None → Passes s (λ q. e.part_entered q z) (part_gains z) known left old old
-    lost_part z left first second = record { adds = λ t u q k sight part tallied. tallied; gained = raised_lost (part_gains z).args known left first second }
+    pub expansion_part : (n : ℕ) (v : p.Parameter) (o : p.Operator) (left : Views) (new : Equations) → Passes s (λ q. e.operator_entered q v o) (operator_gains v o) known left old new
+        → Passes s (λ q. e.part_entered q (p.Expansion n v o)) (part_gains (p.Expansion n v o)) known left old new
+    unfolding e.items_entered part_gains
+    expansion_part n v o left new h = record { adds = h.adds; gained = h.gained }
 
-    pub expansion_part : (n : ℕ) (v : p.Parameter) (o : p.Operator) (left : Views) → Raised (operator_gains v o).args known left → Passes s (λ q. e.part_entered q (p.Expansion n v o)) (part_gains (p.Expansion n v o)) known left old old
-    unfolding part_gains
-    expansion_part n v o left h = record { adds = λ t u q k sight part tallied. tallied; gained = h }
+    pub arithmetic_part : (n : ℕ) (x : p.Expression) (left : Views) (new : Equations) → Passes s (λ q. e.expression_entered q x) (expanded_gains x) known left old new
+        → Passes s (λ q. e.part_entered q (p.Arithmetic n x)) (part_gains (p.Arithmetic n x)) known left old new
+    unfolding e.items_entered part_gains
+    arithmetic_part n x left new h = record { adds = h.adds; gained = raised_less (expanded_gains x).args (part_gains (p.Arithmetic n x)).args known left (omega arith) h.gained }
 
     pub double_part : (w : p.Word) (left : Views) (new : Equations) → Passes s (λ q. e.word_entered q w) (word_gains w) known left old new → Passes s (λ q. e.part_entered q (p.Double w)) (part_gains (p.Double w)) known left old new
     unfolding e.items_entered part_gains
@@ -159,6 +157,114 @@ module _ (s : Tally) where
           (subst (λ a. IsPart t (e.items_entered F11 a (views.Both (views.without_job q)) list)) (sym outside) part);
       gained = raised_none known;
     }
+
+  -- The words of operators
+
+  pub operator_as : (b : Text) (y : p.Parameter) (o v : ParameterOperator) (z : p.Operator) (known left : Views) (old new : Equations) → o ≡ v → trees.operator_of b v ≡ z
+      → Passes s (λ q. e.operator_entered q y z) (operator_gains y z) known left old new → Passes s (λ q. e.operator_entered q y (trees.operator_of b o)) (operator_gains y (trees.operator_of b o)) known left old new
+  operator_as b y o v z known left old new is same h = subst (λ x. Passes s (λ q. e.operator_entered q y x) (operator_gains y x) known left old new) (sym (ap (trees.operator_of b) is ∙ same)) h
+
+  module _ (known : Views) (old : Equations) where
+    pub idle_operator : (y : p.Parameter) (z : p.Operator) → (operator_gains y z).args ≡ 0 → Passes s (λ q. e.operator_entered q y z) (operator_gains y z) known known old old
+    idle_operator y z none = record { adds = λ t u q k sight part tallied. tallied; gained = subst (λ m. Raised m known known) (sym none) (raised_none known) }
+
+    pub remove_operator : (y : p.Parameter) (r : Removal) (w : p.Word) (left : Views) (new : Equations) → Passes s (λ q. e.word_entered q w) (word_gains w) known left old new
+        → Passes s (λ q. e.operator_entered q y (p.Remove r w)) (operator_gains y (p.Remove r w)) known known old new
+    unfolding e.items_entered operator_gains
+    remove_operator y r w left new h = record { adds = h.adds; gained = raised_none known }
+
+    pub use_operator : (y : p.Parameter) (a : Action) (colon : Bool) (w : p.Word) (inside left after : Views) (new : Equations) → ((q : Seen) → Sight s q known → Sight s (e.operand_seen a y q) inside)
+        → Passes s (λ q. e.word_entered q w) (word_gains w) inside left old new → Raised (operator_gains y (p.Use a colon w)).args known after
+        → Passes s (λ q. e.operator_entered q y (p.Use a colon w)) (operator_gains y (p.Use a colon w)) known after old new
+    unfolding e.items_entered
+    use_operator y a colon w inside left after new sees h gained = record { adds = λ t u q k sight part. h.adds t u (e.operand_seen a y q) k (sees q sight) part; gained = gained }
+
+  -- Arithmetic
+
+  pub expression_as : (b : Text) (x v : Expr) (z : p.Expression) (known left : Views) (old new : Equations) → x ≡ v → trees.expression_of b v ≡ z → Passes s (λ q. e.expression_entered q z) (expanded_gains z) known left old new
+      → Passes s (λ q. e.expression_entered q (trees.expression_of b x)) (expanded_gains (trees.expression_of b x)) known left old new
+  expression_as b x v z known left old new is same h = subst (λ y. Passes s (λ q. e.expression_entered q y) (expanded_gains y) known left old new) (sym (ap (trees.expression_of b) is ∙ same)) h
+
+  -- of an expression, or of operands, that are the same
+  pub held : (b : Text) (x v : Expr) (known left : Views) (old new : Equations) → x ≡ v → Passes s (λ q. e.expression_entered q (trees.expression_of b x)) (expanded_gains (trees.expression_of b x)) known left old new
+      → Passes s (λ q. e.expression_entered q (trees.expression_of b v)) (expanded_gains (trees.expression_of b v)) known left old new
+  held b x v known left old new is h = subst (λ y. Passes s (λ q. e.expression_entered q (trees.expression_of b y)) (expanded_gains (trees.expression_of b y)) known left old new) is h
+
+  pub held_operands : (b : Text) (xs ys : List (Binary × Expr)) (known left : Views) (old new : Equations) → xs ≡ ys → Passes s (λ q. e.operands_entered q (operands_from b xs)) (operands_gains (operands_from b xs)) known left old new
+      → Passes s (λ q. e.operands_entered q (operands_from b ys)) (operands_gains (operands_from b ys)) known left old new
+  held_operands b xs ys known left old new is h = subst (λ zs. Passes s (λ q. e.operands_entered q (operands_from b zs)) (operands_gains (operands_from b zs)) known left old new) is h
+
+  pub passes_then : (first second : Seen → List Entered) (g h : Gains) (known mid left : Views) (old one new : Equations) → Passes s first g known mid old one → Passes s second h mid left one new
+      → Passes s (λ q. first q ++ second (gaining g q)) (and_gains g h) known left old new
+  passes_then first second g h known mid left old one new a c = record {
+    adds = λ t u q k sight part tallied.
+        c.adds t u (gaining g q) k (raised_see (names s) q g known mid a.gained sight) (last_part t (first q) (second (gaining g q)) part)
+        (a.adds t u q k sight (first_part t (first q) (second (gaining g q)) part) tallied);
+    gained = raised_then g.args h.args known mid left a.gained c.gained;
+  }
+
+  module _ (known : Views) (old : Equations) where
+    pub idle_expression : (z : p.Expression) → (expanded_gains z).args ≡ 0 → Passes s (λ q. e.expression_entered q z) (expanded_gains z) known known old old
+    idle_expression z none = record { adds = λ t u q k sight part tallied. tallied; gained = subst (λ m. Raised m known known) (sym none) (raised_none known) }
+
+    module _ (left : Views) (new : Equations) where
+      pub expanded_expression : (x : p.Part) → Passes s (λ q. e.part_entered q x) (part_gains x) known left old new → Passes s (λ q. e.expression_entered q (p.Expanded x)) (expanded_gains (p.Expanded x)) known left old new
+      unfolding e.items_entered part_gains
+      expanded_expression x h = record { adds = h.adds; gained = h.gained }
+
+      pub inner_expression : (x : p.Expression) → Passes s (λ q. e.expression_entered q x) (expanded_gains x) known left old new
+          → Passes s (λ q. e.expression_entered q (p.Parenthesis x)) (expanded_gains (p.Parenthesis x)) known left old new
+      unfolding e.items_entered part_gains
+      inner_expression x h = record { adds = h.adds; gained = h.gained }
+
+      pub signed_expression : (o : Unary) (x : p.Expression) → Passes s (λ q. e.expression_entered q x) (expanded_gains x) known left old new
+          → Passes s (λ q. e.expression_entered q (p.Signed o x)) (expanded_gains (p.Signed o x)) known left old new
+      unfolding e.items_entered part_gains
+      signed_expression o x h = record { adds = h.adds; gained = h.gained }
+
+      pub assigned_expression : (n : ℕ) (f : Text) (o : Option Binary) (x : p.Expression) → Passes s (λ q. e.expression_entered q x) (expanded_gains x) known left old new
+          → Passes s (λ q. e.expression_entered q (p.Assigned n f o x)) (expanded_gains (p.Assigned n f o x)) known left old new
+      unfolding e.items_entered part_gains
+      assigned_expression n f o x h = record { adds = h.adds; gained = h.gained }
+
+      pub chain_expression : (x : p.Expression) (rest : p.Operands) (mid : Views) (one : Equations) → Passes s (λ q. e.expression_entered q x) (expanded_gains x) known mid old one
+          → Passes s (λ q. e.operands_entered q rest) (operands_gains rest) mid left one new → Passes s (λ q. e.expression_entered q (p.Chain x rest)) (expanded_gains (p.Chain x rest)) known left old new
+      unfolding e.items_entered part_gains
+      chain_expression x rest mid one a c = passes_then (λ q. e.expression_entered q x) (λ q. e.operands_entered q rest) (expanded_gains x) (operands_gains rest) known mid left old one new a c
+
+      pub choice_expression : (x y z : p.Expression) (mid tested : Views) (one two : Equations) → Passes s (λ q. e.expression_entered q x) (expanded_gains x) known tested old one
+          → Passes s (λ q. e.expression_entered q y) (expanded_gains y) tested mid one two → Passes s (λ q. e.expression_entered q z) (expanded_gains z) mid left two new
+          → Passes s (λ q. e.expression_entered q (p.Choice x y z)) (expanded_gains (p.Choice x y z)) known left old new
+      unfolding e.items_entered part_gains
+      choice_expression x y z mid tested one two a c d =
+          let branches = passes_then (λ q. e.expression_entered q y) (λ q. e.expression_entered q z) (expanded_gains y) (expanded_gains z) tested mid left one two new c d in
+          let all = passes_then (λ q. e.expression_entered q x) (λ q. e.expression_entered q y ++ e.expression_entered (gaining (expanded_gains y) q) z) (expanded_gains x) (and_gains (expanded_gains y) (expanded_gains z)) known tested left old one new a branches in
+          record {
+            adds = λ t u q k sight part.
+                all.adds t u q k sight
+                (subst (λ es. IsPart t es) (append_assoc (e.expression_entered q x) (e.expression_entered (gaining (expanded_gains x) q) y) (e.expression_entered (gaining (expanded_gains y) (gaining (expanded_gains x) q)) z)) part);
+            gained = all.gained;
+          }
+
+  -- the operands before others
+  pub record OperandsPassed (all rest : p.Operands) (known left : Views) (old new : Equations) : Type 0 where
+    pub passes : (end : Views) (newest : Equations) → Passes s (λ q. e.operands_entered q rest) (operands_gains rest) left end new newest → Passes s (λ q. e.operands_entered q all) (operands_gains all) known end old newest
+
+  pub operands_begun : (rest : p.Operands) (known : Views) (old : Equations) → OperandsPassed rest rest known known old old
+  operands_begun rest known old = record { passes = λ end newest h. h }
+
+  pub operands_next : (b : Text) (all : p.Operands) (x : Binary × Expr) (xs : List (Binary × Expr)) (known now left : Views) (old mid new : Equations) → OperandsPassed all (operands_from b (x ∷ xs)) known now old mid
+      → Passes s (λ q. e.expression_entered q (trees.expression_of b x.1)) (expanded_gains (trees.expression_of b x.1)) now left mid new → OperandsPassed all (operands_from b xs) known left old new
+  unfolding e.items_entered operands_from part_gains
+  operands_next b all x xs known now left old mid new before one = record {
+    passes = λ end newest h.
+        before.passes end newest
+        (passes_then (λ q. e.expression_entered q (trees.expression_of b x.1)) (λ q. e.operands_entered q (operands_from b xs)) (expanded_gains (trees.expression_of b x.1)) (operands_gains (operands_from b xs)) now left end mid new newest one h);
+  }
+
+  pub operands_passed : (b : Text) (all : p.Operands) (known left : Views) (old new : Equations) → OperandsPassed all (operands_from b []) known left old new → Passes s (λ q. e.operands_entered q all) (operands_gains all) known left old new
+  unfolding e.items_entered operands_from part_gains
+  operands_passed b all known left old new before = before.passes left new (record { adds = λ t u q k sight part tallied. tallied; gained = raised_none left })
 
   -- What is opened
 

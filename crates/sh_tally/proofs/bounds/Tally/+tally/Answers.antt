@@ -5,7 +5,7 @@ use Rattle.sh_tree.specs.declared.tree.AndOr.{out-AndOr}
 use Rattle.sh_tree.specs.declared.tree.Clause.{out-Clause}
 use Rattle.sh_tree.specs.declared.tree.Command.{out-Command}
 use Rattle.sh_tree.specs.declared.tree.Item.{out-Item}
-use Rattle.sh_tree.specs.Lists.{branches_from, clauses_from, commands_from, elements_from, for_words_from, items_from, links_from, otherwise_from, parts_from, redirects_from, words_from}
+use Rattle.sh_tree.specs.Lists.{branches_from, clauses_from, commands_from, elements_from, for_words_from, items_from, links_from, operands_from, otherwise_from, parts_from, redirects_from, words_from}
 use Rattle.sh_tree.specs.standard.Tree.{text_of}
 use Rattle.sh_tree.specs.standard.program.Syntax as p
 use Rattle.sh_tree.specs.standard.program.Trees as trees
@@ -14,7 +14,7 @@ use Rattle.sh_domain.specs.declared.rule.FlowRule.{FlowRule}
 use Rattle.sh_domain.specs.declared.rule.FlowRule.TheVariants.{F6}
 use Rattle.sh_domain.specs.Entries as entries
 use Rattle.sh_domain.specs.Views as views
-use Rattle.sh_domain.specs.Gains.{part_gains, redirects_gains, word_gains, words_gains}
+use Rattle.sh_domain.specs.Gains.{expanded_gains, operator_gains, part_gains, redirects_gains, word_gains, words_gains}
 use Rattle.sh_domain.specs.Views.{Before, Entry, Head, at}
 use Rattle.sh_counts.specs.declared.equations.Change.TheVariants.{Raise}
 use Rattle.sh_tally.specs.declared.places.End.TheVariants as end
@@ -24,7 +24,7 @@ use Rattle.sh_tally.specs.Walks.{Adds, AddsBranches, AddsClauses, AddsCommand, A
 use Rattle.sh_tally.proofs.IterationLemmas.{ListedPassed, every_kind, listed_begun, listed_kind, listed_next, listed_passed, turns_added}
 use Rattle.sh_tally.proofs.KindLemmas.{BranchesLeft, ClausesLeft, all_falls, branches_added, branches_next, branches_seen, case_kind, clauses_added, clauses_begun, clauses_next, compound_added, conditional_kind, define_added, else_added, ended_clause, fallen_clause, kind_as, no_else_added, nothing_falls, otherwise_as}
 use Rattle.sh_tally.proofs.RedirectLemmas.{RedirectsPassed, command_redirected, redirects_begun, redirects_next, redirects_passed}
-use Rattle.sh_tally.proofs.WordLemmas.{PartsPassed, assignment_values, assignment_words, double_part, expansion_part, file_target, here_target, idle_part, lost_part, operand_values, operand_words, part_as, parts_passed, pieces_next, redirection_values, redirection_words, simple_added, substitution_part, target_as, values_as, values_begun, values_ended, values_next, words_as, words_ended, words_next}
+use Rattle.sh_tally.proofs.WordLemmas.{OperandsPassed, PartsPassed, arithmetic_part, assigned_expression, chain_expression, choice_expression, expanded_expression, expression_as, held, held_operands, idle_expression, idle_operator, inner_expression, operands_next, operands_passed, operator_as, remove_operator, signed_expression, use_operator, assignment_values, assignment_words, double_part, expansion_part, file_target, here_target, idle_part, operand_values, operand_words, part_as, parts_passed, pieces_next, redirection_values, redirection_words, simple_added, substitution_part, target_as, values_as, values_begun, values_ended, values_next, words_as, words_ended, words_next}
 use Rattle.sh_tally.proofs.WalkLemmas.{ItemsLeft, LinksLeft, PartsLeft, group_kind, loop_kind, one_of, pipe_many_added, pipe_many_left, pipe_one_added, pipe_one_left, subshell_kind, before_index, parts_added, background_added, and_added, and_left, at_index, background_left, foreground_added, foreground_left, items_added, items_left, items_next, links_added, links_left, links_next, list_added, list_leaves, or_added, or_left, parts_next}
 use Rattle.sh_tally.proofs.bounds.Tally.+tally.Goals as goal
 
@@ -393,14 +393,22 @@ pub part-returns-in-Param : goal.part-returns-in-Param
 part-returns-in-Param t c =
     let s = c.args.self.now in
     let b = s.script.now in
-    part_as s b c.args.part.now _ _ c.args.known c.after_operator.result c.args.equations.now c.args.equations.now c.in-Param.is (rules.part_of-Param b c.in-Param.param)
-    (expansion_part s c.args.known c.args.equations.now _ _ _ c.after_operator.result (c.after_operator.ensures b))
+    IfOk-weaker c.operator.result _ _
+    (λ left h. part_as s b c.args.part.now _ _ c.args.known left c.args.equations.now c.operator.new.equations c.in-Param.is (rules.part_of-Param b c.in-Param.param)
+    (expansion_part s c.args.known c.args.equations.now _ _ _ left c.operator.new.equations h))
+    c.operator.ensures
 
 pub part-returns-in-Arith : goal.part-returns-in-Arith
 part-returns-in-Arith t c =
     let s = c.args.self.now in
     let b = s.script.now in
-    lost_part s c.args.known c.args.equations.now (trees.part_of b c.args.part.now) _ refl refl
+    let x = c.in-Arith.expression in
+    let one : IfOk c.arithmetic.result (λ left. Passes s (λ q. entries.expression_entered q (trees.expression_of b x)) (expanded_gains (trees.expression_of b x)) c.args.known left c.args.equations.now c.arithmetic.new.equations) =
+    subst (λ x. IfOk c.arithmetic.result (λ left. Passes s (λ q. entries.expression_entered q (trees.expression_of b x)) (expanded_gains (trees.expression_of b x)) c.args.known left c.args.equations.now c.arithmetic.new.equations)) c.get.ensures c.arithmetic.ensures in
+    IfOk-weaker c.arithmetic.result _ _
+    (λ left h. part_as s b c.args.part.now _ _ c.args.known left c.args.equations.now c.arithmetic.new.equations c.in-Arith.is (rules.part_of-Arith b _ x)
+    (arithmetic_part s c.args.known c.args.equations.now _ (trees.expression_of b x) left c.arithmetic.new.equations h))
+    one
 
 pub part-returns-in_ok-list-in-Command : goal.part-returns-in_ok-list-in-Command
 part-returns-in_ok-list-in-Command t c =
@@ -408,6 +416,129 @@ part-returns-in_ok-list-in-Command t c =
     let b = s.script.now in
     part_as s b c.args.part.now _ _ c.args.known c.args.known c.args.equations.now c.list.new.equations c.in-Command.is (rules.part_of-Command b _ _ c.in-Command.list)
     (substitution_part s c.args.known c.args.equations.now _ (trees.script_of b c.in-Command.list) (walks.around b c.alone.result) c.list.new.equations (c.alone.ensures b) c.in_ok-list-in-Command.ensures.adds)
+
+pub arithmetic-returns-in-Constant : goal.arithmetic-returns-in-Constant
+unfolding part_gains
+arithmetic-returns-in-Constant t c =
+    let s = c.args.self.now in
+    let b = s.script.now in
+    expression_as s b c.args.expression.now _ _ c.args.known c.args.known c.args.equations.now c.args.equations.now c.in-Constant.is (rules.expression_of-Constant b _) (idle_expression s c.args.known c.args.equations.now _ refl)
+
+pub arithmetic-returns-in-Variable : goal.arithmetic-returns-in-Variable
+unfolding part_gains
+arithmetic-returns-in-Variable t c =
+    let s = c.args.self.now in
+    let b = s.script.now in
+    expression_as s b c.args.expression.now _ _ c.args.known c.args.known c.args.equations.now c.args.equations.now c.in-Variable.is (rules.expression_of-Variable b _) (idle_expression s c.args.known c.args.equations.now _ refl)
+
+pub arithmetic-returns-in-Expansion : goal.arithmetic-returns-in-Expansion
+arithmetic-returns-in-Expansion t c =
+    let s = c.args.self.now in
+    let b = s.script.now in
+    IfOk-weaker c.part.result _ _
+    (λ left h. expression_as s b c.args.expression.now _ _ c.args.known left c.args.equations.now c.part.new.equations c.in-Expansion.is (rules.expression_of-Expansion b _)
+    (expanded_expression s c.args.known c.args.equations.now left c.part.new.equations _ h))
+    c.part.ensures
+
+pub arithmetic-returns-in-Parenthesis : goal.arithmetic-returns-in-Parenthesis
+arithmetic-returns-in-Parenthesis t c =
+    let s = c.args.self.now in
+    let b = s.script.now in
+    IfOk-weaker c.arithmetic.result _ _
+    (λ left h. expression_as s b c.args.expression.now _ _ c.args.known left c.args.equations.now c.arithmetic.new.equations c.in-Parenthesis.is (rules.expression_of-Parenthesis b _)
+    (inner_expression s c.args.known c.args.equations.now left c.arithmetic.new.equations _ (held s b _ _ c.args.known left c.args.equations.now c.arithmetic.new.equations c.get.ensures h)))
+    c.arithmetic.ensures
+
+pub arithmetic-returns-in-Unary : goal.arithmetic-returns-in-Unary
+arithmetic-returns-in-Unary t c =
+    let s = c.args.self.now in
+    let b = s.script.now in
+    IfOk-weaker c.arithmetic-in-Unary.result _ _
+    (λ left h. expression_as s b c.args.expression.now _ _ c.args.known left c.args.equations.now c.arithmetic-in-Unary.new.equations c.in-Unary.is (rules.expression_of-Unary b _ _)
+    (signed_expression s c.args.known c.args.equations.now left c.arithmetic-in-Unary.new.equations _ _ (held s b _ _ c.args.known left c.args.equations.now c.arithmetic-in-Unary.new.equations c.get-in-Unary.ensures h)))
+    c.arithmetic-in-Unary.ensures
+
+pub arithmetic-returns-in-Assign : goal.arithmetic-returns-in-Assign
+arithmetic-returns-in-Assign t c =
+    let s = c.args.self.now in
+    let b = s.script.now in
+    IfOk-weaker c.arithmetic-in-Assign.result _ _
+    (λ left h. expression_as s b c.args.expression.now _ _ c.args.known left c.args.equations.now c.arithmetic-in-Assign.new.equations c.in-Assign.is (rules.expression_of-Assign b _ _ _)
+    (assigned_expression s c.args.known c.args.equations.now left c.arithmetic-in-Assign.new.equations _ _ _ _ (held s b _ _ c.args.known left c.args.equations.now c.arithmetic-in-Assign.new.equations c.get-in-Assign.ensures h)))
+    c.arithmetic-in-Assign.ensures
+
+pub arithmetic-returns-in_ok-left-in-Chain : goal.arithmetic-returns-in_ok-left-in-Chain
+arithmetic-returns-in_ok-left-in-Chain t c =
+    let s = c.args.self.now in
+    let b = s.script.now in
+    let mid = c.in_ok-left-in-Chain.left in
+    let one = c.arithmetic-in-Chain.new.equations in
+    IfOk-weaker c.chain.result _ _
+    (λ left h. expression_as s b c.args.expression.now _ _ c.args.known left c.args.equations.now c.chain.new.equations c.in-Chain.is (rules.expression_of-Chain b _ _)
+    (chain_expression s c.args.known c.args.equations.now left c.chain.new.equations _ _ mid one (held s b _ _ c.args.known mid c.args.equations.now one c.get-in-Chain.ensures c.in_ok-left-in-Chain.ensures)
+    (held_operands s b _ _ mid left one c.chain.new.equations c.as_slice.ensures h)))
+    c.chain.ensures
+
+pub arithmetic-returns-in_ok-left-in-Choice : goal.arithmetic-returns-in_ok-left-in-Choice
+arithmetic-returns-in_ok-left-in-Choice t c =
+    let s = c.args.self.now in
+    let b = s.script.now in
+    let tested = c.in_ok-tested-in-Choice.tested in
+    let mid = c.in_ok-left-in-Choice.left in
+    let one = c.arithmetic-in-Choice.new.equations in
+    let two = c.arithmetic-in-Choice-2.new.equations in
+    let new = c.arithmetic-in-Choice-3.new.equations in
+    IfOk-weaker c.arithmetic-in-Choice-3.result _ _
+    (λ left h. expression_as s b c.args.expression.now _ _ c.args.known left c.args.equations.now new c.in-Choice.is (rules.expression_of-Choice b _ _ _)
+    (choice_expression s c.args.known c.args.equations.now left new _ _ _ mid tested one two (held s b _ _ c.args.known tested c.args.equations.now one c.get-in-Choice.ensures c.in_ok-tested-in-Choice.ensures)
+    (held s b _ _ tested mid one two c.get-in-Choice-2.ensures c.in_ok-left-in-Choice.ensures) (held s b _ _ mid left two new c.get-in-Choice-3.ensures h)))
+    c.arithmetic-in-Choice-3.ensures
+
+pub chain-loop-link-preserved : goal.chain-loop-link-preserved
+chain-loop-link-preserved t c =
+    let s = c.args.self.now in
+    let b = s.script.now in
+    let all = operands_from b c.args.rest.now in
+    let here : OperandsPassed s all (operands_from b (c.link-item.result ∷ drop (c.loop-link.link-index + 1) c.args.rest.now)) c.args.known c.loop-link.left c.args.equations.now c.loop-link.equations =
+    subst (λ xs. OperandsPassed s all (operands_from b xs) c.args.known c.loop-link.left c.args.equations.now c.loop-link.equations) (at_index c.args.rest.now c.loop-link.link-index c.link-item.result c.loop-link-test.true c.link-item.is) c.loop-link.invariant.left in
+    record { left = operands_next s b all c.link-item.result _ c.args.known c.loop-link.left c.in_ok-left.left c.args.equations.now c.loop-link.equations c.arithmetic.new.equations here c.in_ok-left.ensures }
+
+pub chain-returns : goal.chain-returns
+chain-returns t c =
+    let s = c.args.self.now in
+    let b = s.script.now in
+    let all = operands_from b c.args.rest.now in
+    operands_passed s b all c.args.known c.loop-link.left c.args.equations.now c.loop-link.equations
+    (subst (λ xs. OperandsPassed s all (operands_from b xs) c.args.known c.loop-link.left c.args.equations.now c.loop-link.equations) (drop_all c.loop-link.link-index c.args.rest.now c.loop-link-test.false) c.loop-link.invariant.left)
+
+pub operator-returns-in-Value : goal.operator-returns-in-Value
+unfolding operator_gains
+operator-returns-in-Value t c =
+    let s = c.args.self.now in
+    let b = s.script.now in
+    operator_as s b (trees.parameter_of b c.args.parameter) c.args.operator.now _ _ c.args.known c.args.known c.args.equations.now c.args.equations.now c.in-Value.is (rules.operator_of-Value b) (idle_operator s c.args.known c.args.equations.now (trees.parameter_of b c.args.parameter) _ refl)
+
+pub operator-returns-in-Length : goal.operator-returns-in-Length
+unfolding operator_gains
+operator-returns-in-Length t c =
+    let s = c.args.self.now in
+    let b = s.script.now in
+    operator_as s b (trees.parameter_of b c.args.parameter) c.args.operator.now _ _ c.args.known c.args.known c.args.equations.now c.args.equations.now c.in-Length.is (rules.operator_of-Length b) (idle_operator s c.args.known c.args.equations.now (trees.parameter_of b c.args.parameter) _ refl)
+
+pub operator-returns-in_ok-word-in-Remove : goal.operator-returns-in_ok-word-in-Remove
+operator-returns-in_ok-word-in-Remove t c =
+    let s = c.args.self.now in
+    let b = s.script.now in
+    operator_as s b (trees.parameter_of b c.args.parameter) c.args.operator.now _ _ c.args.known c.args.known c.args.equations.now c.word.new.equations c.in-Remove.is (rules.operator_of-Remove b _ _)
+    (remove_operator s c.args.known c.args.equations.now (trees.parameter_of b c.args.parameter) _ _ _ c.word.new.equations c.in_ok-word-in-Remove.ensures)
+
+pub operator-returns-in_ok-word-in-Use : goal.operator-returns-in_ok-word-in-Use
+operator-returns-in_ok-word-in-Use t c =
+    let s = c.args.self.now in
+    let b = s.script.now in
+    let y = trees.parameter_of b c.args.parameter in
+    operator_as s b y c.args.operator.now _ _ c.args.known c.set_after.result c.args.equations.now c.word-in-Use.new.equations c.in-Use.is (rules.operator_of-Use b c.in-Use.action _ _)
+    (use_operator s c.args.known c.args.equations.now y c.in-Use.action _ _ c.in_word.result _ c.set_after.result c.word-in-Use.new.equations (c.in_word.ensures (names s) b) c.in_ok-word-in-Use.ensures (c.set_after.ensures b _ _))
 
 pub operands-loop-element-preserved : goal.operands-loop-element-preserved
 operands-loop-element-preserved t c =

@@ -1,12 +1,12 @@
 use Rattle.std.proofs.Common.{drop}
-use Rattle.sh_tree.specs.Lists.{elements_from, parts_from, redirects_from, words_from}
+use Rattle.sh_tree.specs.Lists.{elements_from, operands_from, parts_from, redirects_from, words_from}
 use Rattle.sh_rules.specs.Walks as walks
 use Rattle.sh_tally.specs.Walks.{PassesValues, PassesWords}
 use Rattle.sh_tally.proofs.IterationLemmas.{ListedPassed}
 use Rattle.sh_tally.proofs.KindLemmas.{BranchesLeft, ClausesLeft}
 use Rattle.sh_tally.proofs.RedirectLemmas.{RedirectsPassed}
 use Rattle.sh_tally.proofs.WalkLemmas.{ItemsLeft, LinksLeft, PartsLeft}
-use Rattle.sh_tally.proofs.WordLemmas.{PartsPassed}
+use Rattle.sh_tally.proofs.WordLemmas.{OperandsPassed, PartsPassed}
 use Rattle.sh_tally.proofs.bounds.Tally.+tally.Given as goal
 
 abbrev pub invariant-items-loop-item : goal.invariant-items-loop-item
@@ -23,6 +23,9 @@ invariant-branches-loop-branch l = record { left : BranchesLeft l.self (walks.ar
 
 abbrev pub invariant-word_parts-loop-part : goal.invariant-word_parts-loop-part
 invariant-word_parts-loop-part l = record { left : PartsPassed l.self (parts_from l.self.script.now l.parts) (parts_from l.self.script.now (drop l.part-index l.parts)) l.fn.known l.left l.initial.equations l.equations }
+
+abbrev pub invariant-chain-loop-link : goal.invariant-chain-loop-link
+invariant-chain-loop-link l = record { left : OperandsPassed l.self (operands_from l.self.script.now l.rest) (operands_from l.self.script.now (drop l.link-index l.rest)) l.fn.known l.left l.initial.equations l.equations }
 
 abbrev pub invariant-operands-loop-element : goal.invariant-operands-loop-element
 invariant-operands-loop-element l = record { left : PassesWords l.self (elements_from l.self.script.now l.elements) (elements_from l.self.script.now (drop l.element-index l.elements)) l.fn.known l.left l.initial.equations l.equations }
