@@ -1,5 +1,5 @@
 -- Views of what is known stay views of it after each step of a walk.
-use Rattle.std.proofs.Common.{◌≡◌, ℕ, ◌≤◌, true, false, max, List, [], ◌∷◌, ◌++◌, append_assoc, map, Option, Some, None, is_some, IfSome, refl, sym, ap, ◌∙◌, subst, arith, true≢false}
+use Rattle.std.proofs.Common.{◌≡◌, ℕ, ◌≤◌, true, false, max, List, [], ◌∷◌, ◌++◌, append_assoc, map, Option, Some, None, IfSome, refl, sym, ap, ◌∙◌, subst, arith}
 use Rattle.sh_tree.specs.standard.program.Syntax.{Text}
 use Rattle.sh_domain.specs.Gains.{Gains, named}
 use Rattle.sh_domain.specs.Operands.{Names}
@@ -53,14 +53,6 @@ less_one a b (Some h) (Some k) le r = (r.0, let x = r.1 in omega (arith, x, le))
 
 pub raised_less : (a b : ℕ) (k l : Views) → b ≤ a → Raised a k l → Raised b k l
 raised_less a b k l le r = record { first = less_one a b k.first l.first le r.first; second = less_one a b k.second l.second le r.second }
-
-lost_one : (a : ℕ) (o n : Option View) → n ≡ None → RaisedView a o n
-unfolding RaisedView
-lost_one a o None is = tt
-lost_one a o (Some k) is = absurd (true≢false (ap is_some is))
-
-pub raised_lost : (a : ℕ) (k l : Views) → l.first ≡ None → l.second ≡ None → Raised a k l
-raised_lost a k l first second = record { first = lost_one a k.first l.first first; second = lost_one a k.second l.second second }
 
 module _ (functions : List Text) where
   -- after a step that leaves at most the greater of the count and the least one
