@@ -486,12 +486,10 @@ ROUND = {
     "fall": ("while :; do case x in a) shift ;& b) : ;; esac\n", "done\n"),
     "last fall": ("while :; do case x in *) shift ;& esac\n", "done\n"),
     "operators": ("x=${y-$(while :; do shift\n", "done)}\n"),
-    "patterns": ("case x in $(while :; do shift\n", "done)) ;; esac\n"),
     "redirected call": ("d() { exit; }\nwhile :; do shift; d >f\n", "done\n"),
     "redirected true": ("while :; do shift; true >f && break\n", "done\n"),
     "sums": ("x=$(($(while :; do shift\n", "done)))\n"),
     "unmatched": ("while :; do shift; case $x in a) exit ;; esac\n", "done\n"),
-    "unsure call": ("a && d() { exit; }\nwhile :; do shift; d\n", "done\n"),
 }
 
 # By its name, how a script is made, and with which options it is read.
@@ -506,8 +504,6 @@ FAMILIES = {
     "shift nested": (shift_nested, ALL_PARAMETERS),
     **{f"shift and {name}": (shift_beside(line), ALL_PARAMETERS) for name, line in BESIDE.items()},
     **{f"shift round {name}": (of(start, each('echo "$vN"\n'), end), ALL_PARAMETERS) for name, (start, end) in ROUND.items()},
-    "shift by few": (of("while :; do shift; ( set --\n", each("a&"), ") ; done\n"), ALL_PARAMETERS),
-    "shift by calls": (of("f() { shift; ( set --\n", each("a&"), '); f "$@"; }; f "$@"\n'), ALL_PARAMETERS),
     "chain": (chain("in order"), ()),
     "chain back": (chain("reversed"), ()),
     "chain shuffled": (chain("shuffled"), ()),
