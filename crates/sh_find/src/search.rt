@@ -211,7 +211,8 @@ pub fn find(
     Ok(certificate)
 }
 
-/// As `find`, with how often the flow rules of a command were gone through, at most `u64::MAX`.
+/// As `find`, with how often the flow rules of a command or a link were gone through, at most
+/// `u64::MAX`.
 ///
 /// # Errors
 ///

@@ -121,6 +121,9 @@ fn sweep_or_pass(
     ensures swept { IfOk result (λ is_new. IsSwept subject.now draft.old.certificate draft.new.certificate draft.new.probe.count) }
     ensures passed { IfOk result (λ is_new. IsPassed subject.now course.old course.new item.now) }
 {
+    // Each link is a look too, so that rounds which pass by long lists are noticed.
+    let links = item.list.rest.as_slice().len() as u64;
+    draft.looks = draft.looks.saturating_add(links);
     if !is_new && !does_item_wait(&draft.waiting, item) {
         pass_on(subject, &draft.certificate, course, item);
         return Ok(false);
