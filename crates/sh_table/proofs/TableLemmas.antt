@@ -151,6 +151,24 @@ row_found b n (suc a) (r ∷ rs) l up low high =
     rw other (row_found b n a rs (omega (arith, l)) (λ i j d k h. up (suc i) (suc j) d (omega (arith, k)) (omega (arith, h)))
     (λ k d m h. low (suc k) d (omega arith) (omega (arith, h))) (λ k d m h. high (suc k) d (omega (arith, m)) (omega (arith, h))))
 
+pub row_here : (b : List ℕ) (n at : ℕ) (rs : List declared.Row) (r : declared.Row) → IsNonDecreasingBy (λ (r : declared.Row). r.number) rs
+    → at < length rs → r ≡ get_or rs at r → r.number ≡ n → ((k : ℕ) → suc k ≡ at → (d : declared.Row) → (get_or rs k d).number < n)
+    → found_texts b (Some r) ≡ texts_with n (map (row_in b) rs)
+unfolding found_texts texts_with
+row_here b n at [] r up l here same before = absurd (omega (arith, l))
+row_here b n zero (x ∷ rs) r up l here same before =
+    let first : x.number ≡ n = ap (λ (y : declared.Row). y.number) (sym here) ∙ same in
+    let hit : (x.number == n) ≡ true = grind (arith, nat_tests) in
+    rw hit (ap (λ (y : declared.Row). map (text_in b) y.texts.items) here)
+row_here b n (suc a) (x ∷ rs) r up l here same before =
+    let last : x.number ≤ (get_or (x ∷ rs) a x).number = least a (omega (arith, l)) in
+    let less = before a refl x in
+    let other : (x.number == n) ≡ false = grind (arith, nat_tests) in
+    rw other (row_here b n a rs r (λ i j d k h. up (suc i) (suc j) d (omega (arith, k)) (omega (arith, h))) (omega (arith, l)) here same (λ k e d. before (suc k) (ap suc e) d))
+  where
+    least : (k : ℕ) → k < length (x ∷ rs) → x.number ≤ (get_or (x ∷ rs) k x).number
+    least k h = up 0 k x (omega arith) h
+
 -- the text of a word of a row
 
 pub static_here : (b : List ℕ) (ts : List WordText) (k : ℕ) (t : WordText) → k < length ts → t ≡ get_or ts k t → text_in b t ≡ static_at (map (text_in b) ts) k

@@ -1,9 +1,10 @@
 //! The call table of a script.
-ghost use Rattle.std.specs.Prelude.{◌≡◌, ℕ, List, true, ◌<◌, ◌≤◌, ◌-◌, ◌++◌, [], ◌∷◌, length, map, option_map, slice_get, Some, IfErr, IfOk, OnOk};
+ghost use Rattle.std.specs.Prelude.{◌≡◌, ℕ, List, true, ◌<◌, ◌≤◌, ◌-◌, ◌++◌, [], ◌∷◌, length, map, option_map, slice_get, get_or, Some, IfErr, IfOk, OnOk};
 ghost use Rattle.std.specs.List.{position_from};
 ghost use Rattle.std.specs.Option.{option_copied};
 ghost use Rattle.std.specs.Str.{bytes_eq};
 ghost use Rattle.sh_table.specs.Calls as calls;
+ghost use Rattle.sh_table.specs.declared.table.Row as declared;
 ghost use Rattle.sh_tree.specs.declared.tree.Script.{Script};
 ghost use Rattle.sh_tree.specs.standard.program.Trees.{script_of};
 ghost use Rattle.sh_table.specs.Numbering as numbering;
@@ -61,6 +62,18 @@ fn first_with(rows: &[Row], command: u32) -> Option<&Row>
             }
         }
     }
+}
+
+// Whether the row at a place is the first with this number, if the numbers of rows do not fall.
+fn is_first_at(rows: &[Row], place: usize, command: u32) -> bool
+    ensures within { result ≡ true → place < length rows.now }
+    ensures here { result ≡ true → (d : declared.Row) → (get_or rows.now place d).number ≡ command }
+    ensures before { result ≡ true → 0 < place → (d : declared.Row) → (get_or rows.now (place - 1) d).number < command }
+{
+    let Some(row) = rows.get(place) else {
+        return false;
+    };
+    row.number == command && (place == 0 || rows[place - 1].number < command)
 }
 
 #[tactic(auto, unfolding(crate::specs::Calls::static_at))]
@@ -134,10 +147,15 @@ impl<'s> CallTable<'s> {
         self.rows.as_slice()
     }
 
-    /// The first command with this number.
+    // The first command with this number. It is at the place of its number, if the commands have all
+    // numbers from 1, as those of a script that was read do.
     fn row(&self, command: u32) -> Option<&Row>
         ensures { calls.found_texts self.now.script (option_copied result) ≡ calls.texts_with command self.now.rows }
     {
+        let place = (command as usize).saturating_sub(1);
+        if is_first_at(self.rows.as_slice(), place, command) {
+            return Some(&self.rows[place]);
+        }
         let at = self.rows.partition_point(|row| row.number < command);
         first_with(&self.rows[at..], command)
     }
