@@ -1,12 +1,12 @@
 -- Counts that fall stay above every solution.
-use Rattle.std.proofs.Common.{◌≡◌, ℕ, zero, suc, ◌+◌, ◌*◌, ◌<◌, ◌≤◌, Bool, true, false, ◌||◌, List, [], ◌∷◌, ◌++◌, length, get_or, set, take, sum, refl, sym, ap, subst, ◌∙◌, arith, ⊎_elim, max, Option, Some, None, le_refl, le_trans, get_or-set_same, get_or-set_other, length-set}
+use Rattle.std.proofs.Common.{◌≡◌, ℕ, zero, suc, ◌+◌, ◌*◌, ◌<◌, ◌≤◌, Bool, true, false, ◌||◌, List, [], ◌∷◌, ◌++◌, length, get_or, set, take, sum, refl, sym, ap, subst, ◌∙◌, arith, ⊎_elim, max, le_refl, le_trans, get_or-set_same, get_or-set_other, length-set}
 use Rattle.std.specs.List.{All}
-use Rattle.std.specs.Global.{Vec}
-use Rattle.std.proofs.lemmas.Bool.{cases_eq, cases_lt}
-use Rattle.std.proofs.lemmas.List.{get_or_past, take_more}
+use Rattle.std.proofs.lemmas.Bool.{cases_eq}
+use Rattle.std.proofs.lemmas.List.{take_more}
 use Rattle.std.proofs.lemmas.List.Elements.{All-append, All-nil}
 use Rattle.std.proofs.lemmas.List.Sums.{sum_by-cons}
 use Rattle.std.proofs.Math.Nat.{mul-le-mul_left}
+use Rattle.sh_counts.specs.declared.bounded.Reach.{Reach}
 use Rattle.sh_counts.specs.declared.circles.Way.{Way}
 use Rattle.sh_counts.specs.declared.equations.Change.{Change}
 use Rattle.sh_counts.specs.declared.equations.Change.TheVariants.{Raise, Shift, Words}
@@ -33,54 +33,24 @@ put_there counts k to i P lt here other =
     (λ (ne : i ≡ k → ⊥). subst P (sym (get_or-set_other counts k i to 65535 ne)) (other ne))
     (cases_eq i k)
 
--- no reason is lost, and there is one more
-noted : (es : Equations) (reasons : List (Option Equation)) (e : Equation) → Follows es e
-    → ((i : ℕ) (f : Equation) → get_or reasons i None ≡ Some f → (f.count.index ≡ i) × Follows es f)
-    → (i : ℕ) (f : Equation) → get_or (set reasons e.count.index (Some e)) i None ≡ Some f → (f.count.index ≡ i) × Follows es f
-noted es reasons e follows before i f is =
-    ⊎_elim
-    (λ (same : i ≡ e.count.index). ⊎_elim
-    (λ (lt : e.count.index < length reasons).
-    let found : Some e ≡ Some f = sym (ap (λ n. get_or (set reasons e.count.index (Some e)) n None) same ∙ get_or-set_same reasons e.count.index (Some e) None lt) ∙ is in
-    let one : e ≡ f = cc in
-    subst (λ (g : Equation). (g.count.index ≡ i) × Follows es g) one (sym same, follows))
-    (λ (past : length reasons ≤ e.count.index).
-    let long = length-set reasons e.count.index (Some e) in
-    let none : get_or (set reasons e.count.index (Some e)) i None ≡ None = get_or_past (set reasons e.count.index (Some e)) i None (omega arith) in
-    let never : None ≡ Some f = sym none ∙ is in
-    absurd (cc))
-    (cases_lt e.count.index (length reasons)))
-    (λ (ne : i ≡ e.count.index → ⊥). before i f (sym (get_or-set_other reasons e.count.index i (Some e) None ne) ∙ is))
-    (cases_eq i e.count.index)
+-- a count is lowered to a bound of all solutions
+pub put_sound : (es : Equations) (counts now : List ℕ) (index to : ℕ) → IsSound es counts → index < length counts
+    → ((v : ℕ → ℕ) → Solution es v → v index ≤ to) → now ≡ set counts index to → IsSound es now
+put_sound es counts now index to sound lt bound put =
+    subst (IsSound es) (sym put) (record {
+      above = λ v s i. put_there counts index to i (λ n. v i ≤ n) lt (λ same. let one : v i ≡ v index = ap v same in let most = bound v s in omega arith) (λ ne. sound.above v s i);
+    })
 
 -- a count is lowered to what an equation gives
-pub lowered_sound : (es : Equations) (e : Equation) (counts now : List ℕ) (reasons later : List (Option Equation)) (to : ℕ) → Follows es e → IsSound es counts reasons
-    → e.count.index < length counts → to ≡ made e.change (worth counts e.source.index) → now ≡ set counts e.count.index to → later ≡ set reasons e.count.index (Some e)
-    → IsSound es now later
-lowered_sound es e counts now reasons later to follows sound lt given put kept =
-    subst (λ (r : List (Option Equation)). IsSound es now r) (sym kept)
-    (subst (λ (c : List ℕ). IsSound es c (set reasons e.count.index (Some e))) (sym put)
-    (record {
-      above = λ v s i. put_there counts e.count.index to i (λ n. v i ≤ n) lt
-          (λ same.
-          let one : v i ≡ v e.count.index = ap v same in
-          let step = follows v s in
-          let more = made_grows e.change (v e.source.index) (worth counts e.source.index) (sound.above v s e.source.index) in
-          omega arith)
-          (λ ne. sound.above v s i);
-      because = noted es reasons e follows sound.because;
-    }))
-
--- a count is lowered to a bound of all solutions
-pub round_sound : (es : Equations) (counts now : List ℕ) (reasons later : List (Option Equation)) (index to : ℕ) → IsSound es counts reasons → index < length counts
-    → ((v : ℕ → ℕ) → Solution es v → v index ≤ to) → now ≡ set counts index to → later ≡ reasons → IsSound es now later
-round_sound es counts now reasons later index to sound lt bound put kept =
-    subst (λ (r : List (Option Equation)). IsSound es now r) (sym kept)
-    (subst (λ (c : List ℕ). IsSound es c reasons) (sym put)
-    (record {
-      above = λ v s i. put_there counts index to i (λ n. v i ≤ n) lt (λ same. let one : v i ≡ v index = ap v same in let most = bound v s in omega arith) (λ ne. sound.above v s i);
-      because = sound.because;
-    }))
+pub lowered_sound : (es : Equations) (e : Equation) (counts now : List ℕ) (to : ℕ) → Follows es e → IsSound es counts
+    → e.count.index < length counts → to ≡ made e.change (worth counts e.source.index) → now ≡ set counts e.count.index to → IsSound es now
+lowered_sound es e counts now to follows sound lt given put =
+    put_sound es counts now e.count.index to sound lt
+    (λ v s.
+    let step = follows v s in
+    let more = made_grows e.change (v e.source.index) (worth counts e.source.index) (sound.above v s e.source.index) in
+    omega arith)
+    put
 
 -- a lesser count
 pub put_fell : (counts now : List ℕ) (index to : ℕ) → index < length counts → to < worth counts index → now ≡ set counts index to → Fell counts now
@@ -114,11 +84,11 @@ sum_fell old new fell = below old new fell.sized fell.below
         omega arith
 
 -- ---- equations one after another
-pub all_one : (P : Equation → Type 0) (x : Equation) → P x → All P (x ∷ [])
+pub all_one : {X : Type 0} (P : X → Type 0) (x : X) → P x → All P (x ∷ [])
 all_one P x h zero d lt = h
 all_one P x h (suc k) d lt = absurd (omega arith)
 
-pub all_more : (P : Equation → Type 0) (xs ys : List Equation) (x : Equation) → ys ≡ xs ++ x ∷ [] → All P xs → P x → All P ys
+pub all_more : {X : Type 0} (P : X → Type 0) (xs ys : List X) (x : X) → ys ≡ xs ++ x ∷ [] → All P xs → P x → All P ys
 all_more P xs ys x e front last = subst (All P) (sym e) (All-append P xs (x ∷ []) front (all_one P x last))
 
 -- how far a loop over equations is
@@ -155,22 +125,41 @@ went_more old now next a b equations i d went lt fell less same holds = record {
     falls false false first second same_as h = cc
 
 -- ---- ways
-pub leads_one : (es : Equations) (way : Way) (index : ℕ) (e : Equation) → (e.count.index ≡ index) × Follows es e
-    → ((n : ℕ) → n ≤ 65535 → made_by way.times way.plus way.minus way.least way.most n ≡ made e.change n) → Leads es way index e.source.index
-leads_one es way index e reason is v s =
-    let step = reason.1 v s in
-    let one : v e.count.index ≡ v index = ap v reason.0 in
-    let same = is (v e.source.index) (s.few e.source.index) in
+-- a count bounds itself
+pub led_self : (es : Equations) (way : Way) (head : ℕ) → ((n : ℕ) → n ≤ 65535 → made_by way.times way.plus way.minus way.least way.most n ≡ made (Raise 0) n) → Leads es way head head
+unfolding made
+led_self es way head is v s =
+    let few = s.few head in
+    let same : made_by way.times way.plus way.minus way.least way.most (v head) ≡ max (v head) 0 = is (v head) few in
     omega arith
 
-pub leads_more : (es : Equations) (way next : Way) (index at : ℕ) (e : Equation) → Leads es way index at → (e.count.index ≡ at) × Follows es e
-    → ((n : ℕ) → n ≤ 65535 → made_by next.times next.plus next.minus next.least next.most n ≡ made_by way.times way.plus way.minus way.least way.most (made e.change n))
-    → Leads es next index e.source.index
-leads_more es way next index at e before reason is v s =
-    let far = before v s in
-    let step : v at ≤ made e.change (v e.source.index) = subst (λ n. v n ≤ made e.change (v e.source.index)) reason.0 (reason.1 v s) in
-    let more = way_grows way.times way.plus way.minus way.least way.most (v at) (made e.change (v e.source.index)) step in
-    let same = is (v e.source.index) (s.few e.source.index) in
+-- nothing was met
+pub none_led : (es : Equations) (head : ℕ) (reached : List Reach) → reached ≡ [] → All (λ r. Leads es r.way r.index head) reached
+none_led es head reached none = subst (All (λ (r : Reach). Leads es r.way r.index head)) (sym none) (All-nil _)
+
+-- what is bounded bounds the count of an equation
+pub led_on : (es : Equations) (way next : Way) (head from : ℕ) (e : Equation) → e.source.index ≡ from → Leads es way from head → Follows es e
+    → ((n : ℕ) → made_by next.times next.plus next.minus next.least next.most n ≡ made e.change (made_by way.times way.plus way.minus way.least way.most n))
+    → Leads es next e.count.index head
+led_on es way next head from e same before follows is v s =
+    let far : v e.source.index ≤ made_by way.times way.plus way.minus way.least way.most (v head) = subst (λ n. v n ≤ made_by way.times way.plus way.minus way.least way.most (v head)) (sym same) (before v s) in
+    let step = follows v s in
+    let more = made_grows e.change (v e.source.index) (made_by way.times way.plus way.minus way.least way.most (v head)) far in
+    let equal = is (v head) in
+    omega arith
+
+-- what bounds its head closes a circle
+pub led_round : (es : Equations) (way : Way) (index head : ℕ) → index ≡ head → Leads es way index head → Leads es way index index
+led_round es way index head same leads = subst (Leads es way index) (sym same) leads
+
+-- in each solution a count is at most what its way makes of its head
+pub reach_bound : (es : Equations) (way : Way) (index head : ℕ) (counts : List ℕ) (count to : ℕ) → IsSound es counts → Leads es way index head → count ≡ worth counts head
+    → to ≡ made_by way.times way.plus way.minus way.least way.most count → (v : ℕ → ℕ) → Solution es v → v index ≤ to
+reach_bound es way index head counts count to sound leads same is v s =
+    let far = leads v s in
+    let above = sound.above v s head in
+    let few : v head ≤ count = omega arith in
+    let more = way_grows way.times way.plus way.minus way.least way.most (v head) count few in
     omega arith
 
 -- ---- the first counts
@@ -184,23 +173,16 @@ none_follows es e same none v s =
     let one : v e.count.index ≡ v e.source.index = ap v same in
     subst (λ (h : Change). v e.count.index ≤ made h (v e.source.index)) (sym none) (let P : v e.count.index ≤ max (v e.source.index) 0 = omega arith in P)
 
-pub first_sound : (es : Equations) (counts : List ℕ) (reasons : List (Option Equation)) → counts ≡ es.most.items → ((i : ℕ) → get_or reasons i None ≡ None) → IsSound es counts reasons
-first_sound es counts reasons same none = record {
+pub first_sound : (es : Equations) (counts : List ℕ) → counts ≡ es.most.items → IsSound es counts
+first_sound es counts same = record {
   above = λ v s i. subst (λ (c : List ℕ). v i ≤ worth c i) (sym same) (s.below i);
-  because = λ i f is. let never : None ≡ Some f = sym (none i) ∙ is in absurd (cc);
 }
 
--- the same counts for the same reasons
-pub same_sound : (es : Equations) (counts now : Vec ℕ) (reasons later : Vec (Option Equation)) → now ≡ counts → later ≡ reasons
-    → IsSound es counts.items reasons.items → IsSound es now.items later.items
-same_sound es counts now reasons later same kept sound =
-    subst (λ (r : Vec (Option Equation)). IsSound es now.items r.items) (sym kept) (subst (λ (c : Vec ℕ). IsSound es c.items reasons.items) (sym same) sound)
-
 -- what is found is the greatest
-pub greatest_found : (es : Equations) (counts now : List ℕ) (reasons later : List (Option Equation)) (all : List Equation) → all ≡ es.all.items
-    → Fell es.most.items counts → IsSound es counts reasons → (All (Follows es) all → IsSound es counts reasons → IsSound es now later) → Fell counts now → IsSettled now all
+pub greatest_found : (es : Equations) (counts now : List ℕ) (all : List Equation) → all ≡ es.all.items
+    → Fell es.most.items counts → IsSound es counts → (All (Follows es) all → IsSound es counts → IsSound es now) → Fell counts now → IsSettled now all
     → IsGreatest es now
-greatest_found es counts now reasons later all same before sound more fell settled =
+greatest_found es counts now all same before sound more fell settled =
     let whole = fell_more es.most.items counts now before fell in
     record {
       sized = whole.sized;

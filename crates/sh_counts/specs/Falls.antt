@@ -1,6 +1,6 @@
--- Clauses of private functions: counts that fall, each for a reason.
+-- Clauses of private functions: counts that fall.
 -- The standard has no such thing: how equations over counts are solved.
-use Rattle.std.specs.Prelude.{◌≡◌, ℕ, ◌<◌, ◌≤◌, List, Option, Some, None, length, get_or}
+use Rattle.std.specs.Prelude.{◌≡◌, ℕ, ◌<◌, ◌≤◌, List, length}
 use Rattle.std.specs.List.{All}
 use Rattle.sh_counts.specs.declared.circles.Way.{Way}
 use Rattle.sh_counts.specs.declared.equations.Equation.{Equation}
@@ -13,14 +13,13 @@ use Rattle.sh_counts.specs.Ways.{made_by}
 abbrev pub Follows : Equations → Equation → Type 0
 Follows es e = (v : ℕ → ℕ) → Solution es v → Holds v e
 
--- no solution is above the counts, and each reason is an equation of its count
-pub record IsSound (es : Equations) (counts : List ℕ) (reasons : List (Option Equation)) : Type 0 where
+-- no solution is above the counts
+pub record IsSound (es : Equations) (counts : List ℕ) : Type 0 where
   pub above : (v : ℕ → ℕ) → Solution es v → (i : ℕ) → v i ≤ worth counts i
-  pub because : (i : ℕ) (e : Equation) → get_or reasons i None ≡ Some e → (e.count.index ≡ i) × Follows es e
 
 -- what was sound is sound
 abbrev pub StaysSound : Equations → Falling → Falling → Type 0
-StaysSound es old new = IsSound es old.counts.items old.reasons.items → IsSound es new.counts.items new.reasons.items
+StaysSound es old new = IsSound es old.counts.items → IsSound es new.counts.items
 
 -- no count is greater than before
 pub record Fell (old new : List ℕ) : Type 0 where

@@ -15,6 +15,7 @@ pub struct Way {
     least: u16,
     most: u16,
     ghost ordered: { least ≤ most },
+    ghost bounded: { most ≤ 65535 },
 }
 
 impl Way {
@@ -46,8 +47,8 @@ impl Way {
         }
     }
 
-    // What the way makes of a count.
-    fn made(self, count: u16) -> u16
+    /// What the way makes of a count.
+    pub fn made(self, count: u16) -> u16
         ensures { result ≡ made_by self.times self.plus self.minus self.least self.most count }
     {
         let raised = u64::from(self.times) * u64::from(count) + u64::from(self.plus);
@@ -55,19 +56,16 @@ impl Way {
         line.min(u64::from(self.most)).max(u64::from(self.least)) as u16
     }
 
-    /// The way that makes a change first and then those of this way. None if a number overflows.
-    pub fn behind(self, change: Change) -> Option<Way>
-        ensures { IfSome result (λ way. (n : ℕ) → n ≤ 65535 → made_by way.times way.plus way.minus way.least way.most n ≡ made_by self.times self.plus self.minus self.least self.most (made change n)) }
+    /// The way that goes this way first and then makes a change. None if a number overflows.
+    pub fn then(self, change: Change) -> Option<Way>
+        ensures { IfSome result (λ way. (n : ℕ) → made_by way.times way.plus way.minus way.least way.most n ≡ made change (made_by self.times self.plus self.minus self.least self.most n)) }
     {
-        let first = Way::of(change);
-        let times = self.times.checked_mul(first.times)?;
-        let plus = self.times.checked_mul(first.plus)?.checked_add(self.plus)?;
-        let minus = self
-            .times
-            .checked_mul(first.minus)?
-            .checked_add(self.minus)?;
-        let least = self.made(first.least);
-        let most = self.made(first.most);
+        let last = Way::of(change);
+        let times = last.times.checked_mul(self.times)?;
+        let plus = last.times.checked_mul(self.plus)?.checked_add(last.plus)?;
+        let minus = last.times.checked_mul(self.minus)?.checked_add(last.minus)?;
+        let least = last.made(self.least);
+        let most = last.made(self.most);
         Some(Way {
             times,
             plus,

@@ -1,10 +1,12 @@
 //! The greatest counts that equations allow, by a queue of the counts that fell.
-ghost use Rattle.std.specs.Prelude.{◌≡◌, ◌<◌, ◌≤◌, ◌^◌, ℕ, true, false, length, get_or, sum, replicate, None, Some, IfOk, IfSome, IfNone, OnOk, slice_set};
+ghost use Rattle.std.specs.Prelude.{◌≡◌, ◌<◌, ◌≤◌, ◌^◌, ℕ, true, false, length, sum, replicate, IfOk, IfSome, IfNone, OnOk, slice_set};
 ghost use Rattle.std.specs.List.{All};
 ghost use Rattle.sh_counts.specs.declared.equations.Equations as declared;
-ghost use Rattle.sh_counts.specs.Equations.{IsGreatest, made, worth};
-ghost use Rattle.sh_counts.specs.Falls.{Fell, Follows, IsSettled, IsSound, Leads, StaysSound};
+ghost use Rattle.sh_counts.specs.Equations.{IsGreatest, Solution, made, worth};
+ghost use Rattle.sh_counts.specs.Falls.{Fell, Follows, IsSettled, Leads, StaysSound};
+ghost use Rattle.sh_counts.specs.Heads.{AreLed};
 
+use crate::bounded::{Bounded, Reach};
 use crate::circles::Way;
 use crate::equations::{Count, Equation, Equations};
 use crate::users::Users;
@@ -15,7 +17,7 @@ use std::collections::VecDeque;
 #[derive(Drop)]
 struct Falling {
     counts: Vec<u16>,
-    // The equation by which each count fell last.
+    // The equation by which each count fell last: a hint.
     reasons: Vec<Option<Equation>>,
     queue: VecDeque<usize>,
     waiting: Vec<bool>,
@@ -23,9 +25,7 @@ struct Falling {
     falls: usize,
 }
 
-fn no_reasons(alloc: Global, length: usize) -> Result<Vec<Option<Equation>>, AllocError>
-    ensures { IfOk result (λ reasons. (i : ℕ) → get_or reasons.items i None ≡ None) }
-{
+fn no_reasons(alloc: Global, length: usize) -> Result<Vec<Option<Equation>>, AllocError> {
     let mut reasons = Vec::new(alloc);
     for _ in 0..length {
         reasons.push(None)?;
@@ -35,8 +35,7 @@ fn no_reasons(alloc: Global, length: usize) -> Result<Vec<Option<Equation>>, All
 
 impl Falling {
     fn new(alloc: Global, most: &[u16]) -> Result<Falling, AllocError>
-        ensures counts { IfOk result (λ falling. falling.counts.items ≡ most.now) }
-        ensures reasons { IfOk result (λ falling. (i : ℕ) → get_or falling.reasons.items i None ≡ None) }
+        ensures { IfOk result (λ falling. falling.counts.items ≡ most.now) }
     {
         let counts = Vec::from_slice(alloc, most)?;
         let reasons = no_reasons(alloc, most.len())?;
@@ -59,9 +58,7 @@ impl Falling {
         }
     }
 
-    fn reason(&self, index: usize) -> Option<Equation>
-        ensures { result ≡ get_or self.now.reasons.items index None }
-    {
+    fn reason(&self, index: usize) -> Option<Equation> {
         match self.reasons.get(index) {
             Some(reason) => *reason,
             None => None,
@@ -70,8 +67,7 @@ impl Falling {
 
     // Puts a count that fell into the queue, unless it is in it.
     fn wait(&mut self, index: usize) -> Result<(), AllocError>
-        ensures counts { self.new.counts ≡ self.old.counts }
-        ensures reasons { self.new.reasons ≡ self.old.reasons }
+        ensures { self.new.counts ≡ self.old.counts }
     {
         if index < self.waiting.len() && !self.waiting[index] {
             self.waiting[index] = true;
@@ -82,8 +78,7 @@ impl Falling {
 
     // Takes the count that waits longest from the queue.
     fn take(&mut self) -> Option<usize>
-        ensures counts { self.new.counts ≡ self.old.counts }
-        ensures reasons { self.new.reasons ≡ self.old.reasons }
+        ensures { self.new.counts ≡ self.old.counts }
     {
         let index = self.queue.pop_front()?;
         if index < self.waiting.len() {
@@ -95,8 +90,7 @@ impl Falling {
     // Lowers a count.
     fn put(&mut self, index: usize, to: u16) -> Result<(), AllocError>
         requires { index < length self.old.counts.items }
-        ensures counts { OnOk result (self.new.counts.items ≡ slice_set self.old.counts.items index to) }
-        ensures reasons { self.new.reasons ≡ self.old.reasons }
+        ensures { OnOk result (self.new.counts.items ≡ slice_set self.old.counts.items index to) }
     {
         self.counts[index] = to;
         self.falls = self.falls.saturating_add(1);
@@ -105,8 +99,7 @@ impl Falling {
 
     // Notes by which equation a count fell.
     fn note(&mut self, equation: Equation)
-        ensures counts { self.new.counts ≡ self.old.counts }
-        ensures reasons { self.new.reasons.items ≡ slice_set self.old.reasons.items equation.count.index (Some equation) }
+        ensures { self.new.counts ≡ self.old.counts }
     {
         let index = equation.count.index;
         if index < self.reasons.len() {
@@ -177,53 +170,152 @@ impl Falling {
         Some(at)
     }
 
-    // What the changes of the circle of reasons through a count make of it.
-    #[tactic(auto, using(crate::proofs::FallLemmas::leads_one, crate::proofs::FallLemmas::leads_more))]
-    fn way(&self, index: usize) -> Option<Way>
-        ensures { IfSome result (λ way. (es : declared.Equations) → IsSound es self.now.counts.items self.now.reasons.items → Leads es way index index) }
-    {
-        let first = self.reason(index)?;
-        let mut way = Way::of(first.change);
-        let mut at = first.source.index;
-        for _ in 0..self.counts.len() {
-            if at == index {
-                return Some(way);
-            }
-            let reason = self.reason(at)?;
-            way = way.behind(reason.change)?;
-            at = reason.source.index;
-        }
-        None
-    }
-
-    // Lowers a count of a circle to the greatest that the circle allows.
-    #[tactic(auto, using(crate::proofs::FallLemmas::fell_none, crate::proofs::FallLemmas::put_fell, crate::proofs::FallLemmas::round_sound))]
-    fn lower_round(&mut self, index: usize) -> Result<(), AllocError>
-        ensures sound { OnOk result ((es : declared.Equations) → StaysSound es self.old self.new) }
+    // Lowers a count to a bound of it.
+    #[tactic(auto, using(crate::proofs::FallLemmas::fell_none, crate::proofs::FallLemmas::put_fell))]
+    fn lower_to(&mut self, index: usize, bound: u16) -> Result<(), AllocError>
+        ensures sound { OnOk result ((es : declared.Equations) → ((v : ℕ → ℕ) → Solution es v → v index ≤ bound) → StaysSound es self.old self.new) }
         ensures fell { OnOk result (Fell self.old.counts.items self.new.counts.items) }
     {
-        let Some(way) = self.way(index) else {
-            return Ok(());
-        };
-        let count = self.count(Count { index });
-        let greatest = way.greatest(count);
-        if index < self.counts.len() && greatest < count {
-            self.put(index, greatest)?;
+        if index < self.counts.len() && bound < self.count(Count { index }) {
+            self.put(index, bound)?;
         }
         Ok(())
     }
 
-    // Lowers one count of each circle of reasons. Else it could fall by one each time round.
+    // Lowers a count to the greatest that a circle through it allows.
+    fn lower_round(&mut self, index: usize, way: Way) -> Result<(), AllocError>
+        ensures sound { OnOk result ((es : declared.Equations) → Leads es way index index → StaysSound es self.old self.new) }
+        ensures fell { OnOk result (Fell self.old.counts.items self.new.counts.items) }
+    {
+        let count = self.count(Count { index });
+        self.lower_to(index, way.greatest(count))?;
+        Ok(())
+    }
+
+    // Goes on by an equation from a count that the head bounds. If that leads to the head, it
+    // closes a circle. Else the head bounds its count too, if the equation is its reason.
+    #[tactic(auto, using(crate::proofs::FallLemmas::fell_none))]
+    fn go_on(
+        &mut self,
+        bounded: &mut Bounded,
+        from: Reach,
+        equation: Equation,
+    ) -> Result<(), AllocError>
+        ensures sound { OnOk result ((es : declared.Equations) → Follows es equation → Leads es from.way from.index bounded.old.head → StaysSound es self.old self.new) }
+        ensures fell { OnOk result (Fell self.old.counts.items self.new.counts.items) }
+        ensures head { bounded.new.head ≡ bounded.old.head }
+        ensures led { OnOk result ((es : declared.Equations) → Follows es equation → Leads es from.way from.index bounded.old.head → AreLed es bounded.old → AreLed es bounded.new) }
+    {
+        let Some(way) = from.way.then(equation.change) else {
+            return Ok(());
+        };
+        let index = equation.count.index;
+        if equation.source.index != from.index {
+            return Ok(());
+        }
+        if index == bounded.head() {
+            self.lower_round(index, way)?;
+            return Ok(());
+        }
+        if self.reason(index) == Some(equation) {
+            bounded.add(index, way)?;
+        }
+        Ok(())
+    }
+
+    // As `go_on`, by each of these equations.
     #[tactic(auto, using(crate::proofs::FallLemmas::fell_none, crate::proofs::FallLemmas::fell_more))]
-    fn lower_circles(&mut self, alloc: Global) -> Result<(), AllocError>
-        ensures sound { OnOk result ((es : declared.Equations) → StaysSound es self.old self.new) }
+    fn go_on_each(
+        &mut self,
+        bounded: &mut Bounded,
+        from: Reach,
+        equations: &[Equation],
+    ) -> Result<(), AllocError>
+        ensures sound { OnOk result ((es : declared.Equations) → All (Follows es) equations.now → Leads es from.way from.index bounded.old.head → StaysSound es self.old self.new) }
+        ensures fell { OnOk result (Fell self.old.counts.items self.new.counts.items) }
+        ensures head { bounded.new.head ≡ bounded.old.head }
+        ensures led { OnOk result ((es : declared.Equations) → All (Follows es) equations.now → Leads es from.way from.index bounded.old.head → AreLed es bounded.old → AreLed es bounded.new) }
+    {
+        for equation in equations {
+            self.go_on(bounded, from, *equation)?;
+        }
+        Ok(())
+    }
+
+    // Meets the counts that the head bounds by reasons, and lowers the head to what each circle
+    // through them allows. So the branches of a loop take one look, not one each.
+    #[tactic(auto, using(crate::proofs::FallLemmas::fell_none, crate::proofs::FallLemmas::fell_more))]
+    fn close_all(&mut self, bounded: &mut Bounded, users: &Users) -> Result<(), AllocError>
+        ensures sound { OnOk result ((es : declared.Equations) → All (Follows es) users.now.equations.items → AreLed es bounded.old → StaysSound es self.old self.new) }
+        ensures fell { OnOk result (Fell self.old.counts.items self.new.counts.items) }
+        ensures head { bounded.new.head ≡ bounded.old.head }
+        ensures led { OnOk result ((es : declared.Equations) → All (Follows es) users.now.equations.items → AreLed es bounded.old → AreLed es bounded.new) }
+    {
+        for place in 0..self.counts.len() {
+            let Some(from) = bounded.get(place) else {
+                return Ok(());
+            };
+            self.go_on_each(bounded, from, users.of_count(from.index))?;
+        }
+        Ok(())
+    }
+
+    // Lowers each count that was met to what its way makes of the head. Else each fall of the head
+    // so far would still go from count to count.
+    #[tactic(auto, using(crate::proofs::FallLemmas::fell_none, crate::proofs::FallLemmas::fell_more))]
+    fn lower_bounded(&mut self, bounded: &Bounded) -> Result<(), AllocError>
+        ensures sound { OnOk result ((es : declared.Equations) → AreLed es bounded.now → StaysSound es self.old self.new) }
+        ensures fell { OnOk result (Fell self.old.counts.items self.new.counts.items) }
+    {
+        for place in 0..self.counts.len() {
+            let Some(reach) = bounded.get(place) else {
+                return Ok(());
+            };
+            self.lower_reach(bounded.head(), reach)?;
+        }
+        Ok(())
+    }
+
+    // Lowers a count to what its way makes of the head.
+    fn lower_reach(&mut self, head: usize, reach: Reach) -> Result<(), AllocError>
+        ensures sound { OnOk result ((es : declared.Equations) → Leads es reach.way reach.index head → StaysSound es self.old self.new) }
+        ensures fell { OnOk result (Fell self.old.counts.items self.new.counts.items) }
+    {
+        let count = self.count(Count { index: head });
+        self.lower_to(reach.index, reach.way.made(count))?;
+        Ok(())
+    }
+
+    // Lowers a count to what the circles through it allow, and then those that it bounds.
+    #[tactic(auto, using(crate::proofs::FallLemmas::fell_more))]
+    fn lower_head(
+        &mut self,
+        bounded: &mut Bounded,
+        users: &Users,
+        head: usize,
+    ) -> Result<(), AllocError>
+        ensures sound { OnOk result ((es : declared.Equations) → All (Follows es) users.now.equations.items → StaysSound es self.old self.new) }
+        ensures fell { OnOk result (Fell self.old.counts.items self.new.counts.items) }
+    {
+        bounded.begin(head)?;
+        self.close_all(bounded, users)?;
+        self.lower_bounded(&*bounded)?;
+        Ok(())
+    }
+
+    // Lowers one count of each circle of reasons, and all that it bounds. Else it could fall by one
+    // each time round.
+    #[tactic(auto, using(crate::proofs::FallLemmas::fell_none, crate::proofs::FallLemmas::fell_more))]
+    fn lower_circles(&mut self, alloc: Global, users: &Users) -> Result<(), AllocError>
+        ensures sound { OnOk result ((es : declared.Equations) → All (Follows es) users.now.equations.items → StaysSound es self.old self.new) }
         ensures fell { OnOk result (Fell self.old.counts.items self.new.counts.items) }
     {
         self.falls = 0;
         let mut marks = no_marks(alloc, self.counts.len())?;
+        let mut bounded = Bounded::none(alloc, self.counts.len())?;
         for index in 0..self.counts.len() {
             if let Some(met) = self.circle(marks.as_mut_slice(), index) {
-                self.lower_round(met)?;
+                self.lower_head(&mut bounded, users, met)?;
             }
         }
         Ok(())
@@ -231,12 +323,12 @@ impl Falling {
 
     // Looks for circles if counts fell more often since the last look than there are counts.
     #[tactic(auto, using(crate::proofs::FallLemmas::fell_none))]
-    fn look_round(&mut self, alloc: Global) -> Result<(), AllocError>
-        ensures sound { OnOk result ((es : declared.Equations) → StaysSound es self.old self.new) }
+    fn look_round(&mut self, alloc: Global, users: &Users) -> Result<(), AllocError>
+        ensures sound { OnOk result ((es : declared.Equations) → All (Follows es) users.now.equations.items → StaysSound es self.old self.new) }
         ensures fell { OnOk result (Fell self.old.counts.items self.new.counts.items) }
     {
         if self.falls > self.counts.len() {
-            self.lower_circles(alloc)?;
+            self.lower_circles(alloc, users)?;
         }
         Ok(())
     }
@@ -248,7 +340,7 @@ impl Falling {
         ensures sound { OnOk result ((es : declared.Equations) → All (Follows es) users.now.equations.items → StaysSound es self.old self.new) }
         ensures fell { OnOk result (Fell self.old.counts.items self.new.counts.items) }
     {
-        self.look_round(alloc)?;
+        self.look_round(alloc, users)?;
         match self.take() {
             Some(index) => {
                 self.lower_each(users.of_count(index))?;

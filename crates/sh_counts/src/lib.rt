@@ -1,6 +1,7 @@
 //! The greatest numbers of positional parameters that equations allow.
 #![tactic(auto)]
 
+mod bounded;
 mod circles;
 mod equations;
 mod falling;

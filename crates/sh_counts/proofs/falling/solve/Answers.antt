@@ -13,5 +13,5 @@ loop-falling-smaller c =
 pub returns : goal.returns
 returns c =
     let none : c.in_ok-lower_each.field-0 ≡ false = search rules in
-    greatest_found c.args.equations.now c.loop-falling.falling.counts.items c.lower_each.new.self.counts.items c.loop-falling.falling.reasons.items c.lower_each.new.self.reasons.items c.all.result.now c.all.ensures
+    greatest_found c.args.equations.now c.loop-falling.falling.counts.items c.lower_each.new.self.counts.items c.all.result.now c.all.ensures
     c.loop-falling.invariant.fell c.loop-falling.invariant.sound (c.in_ok-lower_each.ensures.sound c.args.equations.now) c.in_ok-lower_each.ensures.fell (c.in_ok-lower_each.ensures.settled none)

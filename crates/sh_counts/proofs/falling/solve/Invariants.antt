@@ -4,7 +4,7 @@ use Rattle.sh_counts.proofs.falling.solve.Given as goal
 
 abbrev pub invariant-loop-falling : goal.invariant-loop-falling
 invariant-loop-falling l = record {
-  sound : IsSound l.equations l.falling.counts.items l.falling.reasons.items;
+  sound : IsSound l.equations l.falling.counts.items;
   fell : Fell l.equations.most.items l.falling.counts.items;
 }
 

@@ -7,6 +7,6 @@ use Rattle.sh_counts.proofs.falling.Falling.lower_each.Given as goal
 
 abbrev pub invariant-loop-equation : goal.invariant-loop-equation
 invariant-loop-equation l = record {
-  sound : (es : Equations) → All (Follows es) l.equations → IsSound es l.initial.self.counts.items l.initial.self.reasons.items → IsSound es l.self.counts.items l.self.reasons.items;
+  sound : (es : Equations) → All (Follows es) l.equations → IsSound es l.initial.self.counts.items → IsSound es l.self.counts.items;
   went : Went l.initial.self.counts.items l.self.counts.items l.has_fallen (take l.equation-index l.equations);
 }

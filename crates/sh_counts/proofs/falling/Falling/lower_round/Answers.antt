@@ -1,14 +1,11 @@
-use Rattle.std.proofs.Common.{ap, arith, Option}
-use Rattle.std.specs.Global.{Vec}
-use Rattle.sh_counts.specs.declared.equations.Equation.{Equation}
-use Rattle.sh_counts.proofs.FallLemmas.{round_sound}
+use Rattle.std.proofs.Common.{arith}
 use Rattle.sh_counts.proofs.falling.Falling.lower_round.Goals as goal
 
-pub returns-in_ok-put-clause-sound : goal.returns-in_ok-put-clause-sound
-returns-in_ok-put-clause-sound c es sound =
-    round_sound es c.args.self.now.counts.items c.put.new.self.counts.items c.args.self.now.reasons.items c.put.new.self.reasons.items c.args.index c.greatest-greatest.result sound (omega arith)
+pub returns-clause-sound : goal.returns-clause-sound
+returns-clause-sound c es leads sound =
+    c.in_ok-lower_to.ensures.sound es
     (λ v s.
     let above = sound.above v s c.args.index in
     let same = c.count-count.ensures in
-    c.greatest-greatest.ensures (v c.args.index) (omega arith) (c.in-Some.ensures es sound v s))
-    c.in_ok-put.ensures.counts (ap (λ (w : Vec (Option Equation)). w.items) c.in_ok-put.ensures.reasons)
+    c.greatest.ensures (v c.args.index) (omega arith) (leads v s))
+    sound
