@@ -172,14 +172,18 @@ def triggers(size):
     return text_of([*lines, "while a; do", *back, "unset -f c0", "done"])
 
 
-def triggers_before(size):
-    """Triggers before utilities, over which each loss goes."""
-    count = max(3, min(200, size // 150))
-    start = [f"c{n}() {{ exit; }}" for n in range(count)]
-    back = [f"a && c{n} && unset -f c{n + 1}" for n in reversed(range(count - 1))]
-    lines = [*start, "while a; do", *back, "unset -f c0"]
-    rest = size - len(text_of(lines)) - len("done\n")
-    return text_of([*lines, *(["b"] * (rest // 2)), "done"])
+def triggers_before(line):
+    """Triggers before such lines, over which each loss goes."""
+
+    def of(size):
+        count = max(3, min(200, size // 150))
+        start = [f"c{n}() {{ exit; }}" for n in range(count)]
+        back = [f"a && c{n} && unset -f c{n + 1}" for n in reversed(range(count - 1))]
+        lines = [*start, "while a; do", *back, "unset -f c0"]
+        rest = size - len(text_of(lines)) - len("done\n")
+        return text_of([*lines, *([line] * min(MOST_COMMANDS - 5 * count, rest // (len(line) + 1))), "done"])
+
+    return of
 
 
 def triggers_by_functions(size):
@@ -516,7 +520,8 @@ FAMILIES = {
     "losing circle": (losing_circle, ()),
     "groups": (groups_in_groups, ()),
     "triggers": (triggers, ()),
-    "triggers before": (triggers_before, ()),
+    "triggers before": (triggers_before("b"), ()),
+    "triggers before assignments": (triggers_before("v1=x"), ()),
     "trigger circle": (triggers_by_functions, ()),
     "trigger calls": (trigger_calls, ()),
     "told by parts": (told_by_parts, ()),
@@ -558,6 +563,7 @@ def findings_of(text, lines):
 ROUNDS = {
     "triggers": rounds_of,
     "triggers before": rounds_of,
+    "triggers before assignments": rounds_of,
     "trigger calls": rounds_of,
     "told by parts": findings_of,
     "told in parts of parts": findings_of,

@@ -31,7 +31,7 @@ use sh_sweeps::known::{
     behind_pipe, entry_of, head_of, inside_of, pass_all, pass_link, pass_on, process_of,
     started_in, turn_of,
 };
-use sh_sweeps::{carried, carry_on, lower_before};
+use sh_sweeps::{carry_over, lower_before};
 use sh_tree::{AndOr, Command, Item, Kind, Link, LoopKind, Pipe, Script, Span};
 use sh_worklist::{Look, do_links_wait, does_item_wait, does_pipe_wait, next_place};
 use std::alloc::AllocError;
@@ -68,18 +68,26 @@ pub fn sweep_items(
     let mut place = 0;
     while place < items.len() {
         let next = pass_idle(subject, &*draft, course, is_new, items, place);
+        let carried = looks_between(is_new, place, next);
+        draft.looks = draft.looks.saturating_add(carried);
         place = next + 1;
-        let is_last = place == items.len();
         let item = &items[next];
-        is_new = sweep_or_pass(
-            subject, draft, levels, around, course, is_new, is_last, item,
-        )?;
+        is_new = sweep_or_pass(subject, draft, levels, around, course, is_new, item)?;
     }
     Ok(())
 }
 
-// Goes on after the items from a place on that do not wait, if nothing is new before them. Gives
-// the place of the next one.
+// The items between two places over which what is known was carried, each of which is a look too.
+fn looks_between(is_new: bool, place: usize, next: usize) -> u64 {
+    if is_new {
+        next.saturating_sub(place) as u64
+    } else {
+        0
+    }
+}
+
+// Goes on after the items from a place on that do not wait, if nothing is new before them, or else
+// after those over which what is known is carried. Gives the place of the next one.
 fn pass_idle(
     subject: &Subject<'_>,
     draft: &Draft,
@@ -90,12 +98,13 @@ fn pass_idle(
 ) -> usize
     requires ready { IsReady subject.now draft.now.certificate draft.now.probe.count }
     requires within { place < length items.now }
+    requires placed { (y : entries.Around) × AreItems subject.now course.old.by y (known_behind subject.now course.old.behind) (drop place items.now) }
     ensures from { place ≤ result }
     ensures there { result < length items.now }
     ensures passed { ArePassed subject.now course.old course.new (take (result - place) (drop place items.now)) }
 {
     if is_new {
-        return place;
+        return carry_over(subject, draft, course, items, place);
     }
     let next = next_place(&draft.waiting, items, place);
     pass_all(subject, &draft.certificate, course, &items[place..next]);
@@ -103,8 +112,7 @@ fn pass_idle(
 }
 
 // Goes on after an item, and lowers the certificate at its commands if what is known before them is
-// new or one of them waits. It lowers nothing at a utility over which what is known is carried.
-// Reports whether what is known after it is new: a hint.
+// new or one of them waits. Reports whether what is known after it is new: a hint.
 #[cycle(sweep)]
 fn sweep_or_pass(
     subject: &Subject<'_>,
@@ -113,7 +121,6 @@ fn sweep_or_pass(
     around: &Around<'_>,
     course: &mut Course,
     is_new: bool,
-    is_last: bool,
     item: &Item,
 ) -> Result<bool, AllocError>
     requires ready { IsReady subject.now draft.old.certificate draft.old.probe.count }
@@ -127,11 +134,6 @@ fn sweep_or_pass(
     if !is_new && !does_item_wait(&draft.waiting, item) {
         pass_on(subject, &draft.certificate, course, item);
         return Ok(false);
-    }
-    if let Some(command) = carried(subject, &*draft, is_last, item) {
-        carry_on(subject, &draft.certificate, course, item, command);
-        draft.note_carried();
-        return Ok(true);
     }
     let before = draft.lowered;
     sweep_item(subject, draft, levels, around, course, item)?;

@@ -1,6 +1,6 @@
 -- Where a command is entered, a certificate that keeps the rules claims no more than is known
 -- there.
-use Rattle.std.proofs.Common.{◌≡◌, ℕ, ◌-◌, Option, Some, None, List, [], ◌∷◌, ◌++◌, nat_lt, Bool, true, false, if◌then◌else◌, sym, ap, ◌∙◌, subst, true≢false, is_some, option_map, unwrap_or, refl, IfSome, ◌+◌}
+use Rattle.std.proofs.Common.{◌≡◌, ℕ, ◌-◌, Option, Some, None, List, [], ◌∷◌, ◌++◌, nat_lt, Bool, true, false, if◌then◌else◌, sym, ap, ◌∙◌, subst, true≢false, is_some, option_map, unwrap_or, refl, IfSome}
 use Rattle.sh_tree.specs.declared.tree.Command.{Command, out-Command}
 use Rattle.sh_tree.specs.standard.program.Syntax as p
 use Rattle.sh_tree.specs.standard.program.Syntax.{Text}
@@ -8,7 +8,7 @@ use Rattle.sh_tree.specs.standard.program.Trees as trees
 use Rattle.sh_tree.proofs.ProgramRules as rules
 use Rattle.sh_domain.specs.Filled.{is_stated}
 use Rattle.sh_domain.specs.declared.rule.FlowRule.{FlowRule}
-use Rattle.sh_domain.specs.declared.rule.FlowRule.TheVariants.{F4, F13}
+use Rattle.sh_domain.specs.declared.rule.FlowRule.TheVariants.{F4, F5, F13}
 use Rattle.sh_domain.specs.Entries.{Around, Entered, behind_redirects, command_entered}
 use Rattle.sh_domain.specs.Facts.{Facts, facts}
 use Rattle.sh_domain.specs.Faults.{broken}
@@ -19,12 +19,13 @@ use Rattle.sh_domain.specs.Reading.{claim_fits}
 use Rattle.sh_domain.specs.Rules as r
 use Rattle.sh_domain.specs.Rules.{Constraint, bound, bounds, losses}
 use Rattle.sh_domain.specs.Sheets.{Sheet}
-use Rattle.sh_domain.specs.Table.{Utility, after_utility, behind_words, manner}
+use Rattle.sh_domain.specs.Table.{Nameless, Utility, after_nameless, after_utility, assignments_gains, behind_words, is_redirected, manner}
 use Rattle.sh_table.specs.declared.kind.Kind.TheVariants as kind
 use Rattle.sh_tree.specs.Lists.{elements_from, redirects_from}
 use Rattle.sh_tree.specs.standard.Words.{elements_of}
+use Rattle.sh_tree.specs.standard.program.Words.{redirects_in}
 use Rattle.sh_domain.specs.Views as views
-use Rattle.sh_domain.specs.Views.{AfterNonzero, AfterZero, Certificate, ReturnsNonzero, ReturnsZero, Seen, Slot, view_facts}
+use Rattle.sh_domain.specs.Views.{AfterNonzero, AfterZero, Certificate, ReturnsNonzero, ReturnsZero, Seen, Slot, gaining, view_facts}
 use Rattle.sh_domain.proofs.EachLemmas.{each_parts}
 use Rattle.sh_domain.proofs.MonotoneLemmas.{told_none}
 use Rattle.sh_domain.proofs.OrderLemmas.{meet_first, meet_greatest, within_nowhere, within_test, within_through}
@@ -39,7 +40,7 @@ use Rattle.sh_drafts.specs.Gathered.{fitting, fitting_place}
 use Rattle.sh_drafts.specs.Places.{at, claim_there, place_of}
 use Rattle.sh_drafts.specs.Spots.{place_at}
 use Rattle.sh_drafts.specs.Stated.{is_asked, is_free}
-use Rattle.sh_sweeps.specs.Plain.{IsPlain}
+use Rattle.sh_sweeps.specs.Plain.{IsAssigning, IsPlain}
 use Rattle.sh_sweeps.specs.Sweeps.{IsCommand, IsPart, Knows}
 use Rattle.sh_drafts.specs.Ready.{Keeps}
 use Rattle.sh_drafts.specs.Starts.{start_of}
@@ -111,6 +112,21 @@ module _ (stated : Bool) (d : Facts) (c : Certificate) where
       let both = each_parts Unbroken zero nonzero (each_parts Unbroken (zero ++ nonzero) [] told).0 in
       (entered_within (AfterZero n) n F4 seen (free_after n).0 both.0, entered_within (AfterNonzero n) n F4 seen (free_after n).1 both.1)
 
+  assigned_within : (functions : List Text) (y : Around) (n : ℕ) (q : Seen) (es : p.Elements) → manner functions es ≡ Nameless → is_redirected (redirects_in es) ≡ false
+      → Each Unbroken (r.kind_bounds functions y n q (p.Simple es))
+      → IsWithin (facts (c.claim (AfterZero n))) (seen_facts d c (gaining (assignments_gains es) (behind_words es (views.at (views.Before n)))))
+      × IsWithin (facts (c.claim (AfterNonzero n))) (seen_facts d c (gaining (assignments_gains es) (behind_words es (views.at (views.Before n)))))
+  unfolding r.kind_bounds r.simple_bounds after_nameless views.if_zero views.if_nonzero
+  assigned_within functions y n q es named redirected all =
+      let behind : Seen = behind_words es (views.at (views.Before n)) in
+      let settled : Seen = gaining (assignments_gains es) behind in
+      let told : Each Unbroken (bound (AfterZero n) n F5 settled ++ bound (AfterNonzero n) n F5 (if is_redirected (redirects_in es) then behind else settled)) =
+      subst (λ m. Each Unbroken (r.simple_bounds y n es m)) named all in
+      let both =
+      each_parts Unbroken (bound (AfterZero n) n F5 settled) (bound (AfterNonzero n) n F5 settled)
+      (subst (λ b. Each Unbroken (bound (AfterZero n) n F5 settled ++ bound (AfterNonzero n) n F5 (if b then behind else settled))) redirected told) in
+      (entered_within (AfterZero n) n F5 settled (free_after n).0 both.0, entered_within (AfterNonzero n) n F5 settled (free_after n).1 both.1)
+
   -- where a function returns, after its body
   body_within : (f : Text) (m offset : ℕ) (kind : p.Kind) (rs : p.Redirects) → stated ≡ false → Each Unbroken (r.body_bounds f (p.command m offset kind rs))
       → IsWithin (facts (c.claim (ReturnsZero f))) (seen_facts d c (views.at (AfterZero m))) × IsWithin (facts (c.claim (ReturnsNonzero f))) (seen_facts d c (views.at (AfterNonzero m)))
@@ -169,8 +185,8 @@ module _ (s : Subject) (admitted : IsAdmitted s.script.now s.policy.now s.tree.n
       (among_grows s.names.now (seen_facts (start_of s) c (views.at slot)) (seen_facts (start_of s) c q) (within_through _ (facts (c.claim slot)) _ (meet_first (facts (c.claim slot)) _) (within other keeps)))
       (knows other keeps)
 
-  -- after a utility that leaves what is known after its words
-  module _ (by : FlowRule) (y : Around) (k : Facts) (c : Command) (here : IsCommand s by y k c) (plain : IsPlain s c) where
+  -- after a simple command that leaves what is known after its words, or assignments alone
+  module _ (by : FlowRule) (y : Around) (k : Facts) (c : Command) (here : IsCommand s by y k c) where
     abbrev n : ℕ
     n = (out-Command c).number
 
@@ -180,34 +196,51 @@ module _ (s : Subject) (admitted : IsAdmitted s.script.now s.policy.now s.tree.n
     abbrev rs : p.Redirects
     rs = redirects_from s.script.now (out-Command c).redirects
 
-    utility_rules : (other : Sheet) (keeps : Keeps s other)
-        → Each (Unbroken s.stated (start_of s) (claims s admitted other keeps)) (bounds (functions s admitted other keeps) (record { command = p.command n (out-Command c).at (p.Simple es) rs; rule = by; around = y; seen = here.seen }))
-    utility_rules other keeps =
-        let same : trees.command_of s.script.now c ≡ p.command n (out-Command c).at (p.Simple es) rs =
-        rules.command_of-out s.script.now c ∙ ap (λ m. p.command n (out-Command c).at m rs) plain.simple in
-        subst (λ m. KeepsAsked s admitted other (record { command = m; rule = by; around = y; seen = here.seen })) same
-        (kept_there s admitted other keeps by y here.seen (trees.command_of s.script.now c) here.part)
+    abbrev Left : Seen → Type 0
+    Left q =
+        (other : Sheet) (keeps : Keeps s other)
+        → IsWithin (facts ((claims s admitted other keeps).claim (AfterZero n))) (seen_facts (start_of s) (claims s admitted other keeps) q)
+        × IsWithin (facts ((claims s admitted other keeps).claim (AfterNonzero n))) (seen_facts (start_of s) (claims s admitted other keeps) q)
 
-    utility_left : (other : Sheet) (keeps : Keeps s other)
-        → IsWithin (facts ((claims s admitted other keeps).claim (AfterZero n))) (seen_facts (start_of s) (claims s admitted other keeps) (behind_words es (views.at (views.Before n))))
-        × IsWithin (facts ((claims s admitted other keeps).claim (AfterNonzero n))) (seen_facts (start_of s) (claims s admitted other keeps) (behind_words es (views.at (views.Before n))))
-    utility_left other keeps =
-        let fs : List Text = functions s admitted other keeps in
-        utility_within s.stated (start_of s) (claims s admitted other keeps) fs y n (behind_redirects n rs) es plain.words plain.named
-        (parts_of s.stated (start_of s) (claims s admitted other keeps) fs n (out-Command c).at (p.Simple es) rs by y here.seen (utility_rules other keeps)).1
+    module _ (simple : trees.kind_of s.script.now (out-Command c).kind ≡ p.Simple es) where
+      simple_rules : (other : Sheet) (keeps : Keeps s other)
+          → Each (Unbroken s.stated (start_of s) (claims s admitted other keeps)) (bounds (functions s admitted other keeps) (record { command = p.command n (out-Command c).at (p.Simple es) rs; rule = by; around = y; seen = here.seen }))
+      simple_rules other keeps =
+          let same : trees.command_of s.script.now c ≡ p.command n (out-Command c).at (p.Simple es) rs =
+          rules.command_of-out s.script.now c ∙ ap (λ m. p.command n (out-Command c).at m rs) simple in
+          subst (λ m. KeepsAsked s admitted other (record { command = m; rule = by; around = y; seen = here.seen })) same
+          (kept_there s admitted other keeps by y here.seen (trees.command_of s.script.now c) here.part)
 
-    utility_entered : Knows s (views.at (views.Before n)) k
-    utility_entered =
-        slot_knows (views.Before n) here.seen k
-        (λ other keeps. own_within s.stated (start_of s) (claims s admitted other keeps) (functions s admitted other keeps) n (out-Command c).at (p.Simple es) rs by y here.seen (utility_rules other keeps))
-        here.knows
+      kind_rules : (other : Sheet) (keeps : Keeps s other)
+          → Each (Unbroken s.stated (start_of s) (claims s admitted other keeps)) (r.kind_bounds (functions s admitted other keeps) y n (behind_redirects n rs) (p.Simple es))
+      kind_rules other keeps =
+          (parts_of s.stated (start_of s) (claims s admitted other keeps) (functions s admitted other keeps) n (out-Command c).at (p.Simple es) rs by y here.seen (simple_rules other keeps)).1
 
-    pub utility_known : (l : Facts) → ((q : Seen) → Knows s q k → Knows s (behind_words es q) l) → Knows s (views.at (AfterZero n)) l × Knows s (views.at (AfterNonzero n)) l
-    utility_known l gained =
-        let left : Knows s (behind_words es (views.at (views.Before n))) l = gained (views.at (views.Before n)) utility_entered in (
-          slot_knows (AfterZero n) (behind_words es (views.at (views.Before n))) l (λ other keeps. (utility_left other keeps).0) left,
-          slot_knows (AfterNonzero n) (behind_words es (views.at (views.Before n))) l (λ other keeps. (utility_left other keeps).1) left,
-        )
+      simple_entered : Knows s (views.at (views.Before n)) k
+      simple_entered =
+          slot_knows (views.Before n) here.seen k
+          (λ other keeps. own_within s.stated (start_of s) (claims s admitted other keeps) (functions s admitted other keeps) n (out-Command c).at (p.Simple es) rs by y here.seen (simple_rules other keeps))
+          here.knows
+
+      known_left : (q : Seen) (l : Facts) → Left q → Knows s q l → Knows s (views.at (AfterZero n)) l × Knows s (views.at (AfterNonzero n)) l
+      known_left q l left knows = (
+        slot_knows (AfterZero n) q l (λ other keeps. (left other keeps).0) knows,
+        slot_knows (AfterNonzero n) q l (λ other keeps. (left other keeps).1) knows,
+      )
+
+    pub utility_known : IsPlain s c → (l : Facts) → ((q : Seen) → Knows s q k → Knows s (behind_words es q) l) → Knows s (views.at (AfterZero n)) l × Knows s (views.at (AfterNonzero n)) l
+    utility_known plain l gained =
+        let left : Left (behind_words es (views.at (views.Before n))) =
+        λ other keeps. utility_within s.stated (start_of s) (claims s admitted other keeps) (functions s admitted other keeps) y n (behind_redirects n rs) es plain.words plain.named (kind_rules plain.simple other keeps) in
+        known_left plain.simple (behind_words es (views.at (views.Before n))) l left (gained (views.at (views.Before n)) (simple_entered plain.simple))
+
+    pub assigned_known : IsAssigning s c → (m l : Facts) → ((q : Seen) → Knows s q k → Knows s (behind_words es q) m) → ((q : Seen) → Knows s q m → Knows s (gaining (assignments_gains es) q) l)
+        → Knows s (views.at (AfterZero n)) l × Knows s (views.at (AfterNonzero n)) l
+    assigned_known assigning m l gained settled =
+        let behind : Seen = behind_words es (views.at (views.Before n)) in
+        let left : Left (gaining (assignments_gains es) behind) =
+        λ other keeps. assigned_within s.stated (start_of s) (claims s admitted other keeps) (functions s admitted other keeps) y n (behind_redirects n rs) es assigning.named assigning.redirected (kind_rules assigning.simple other keeps) in
+        known_left assigning.simple (gaining (assignments_gains es) behind) l left (settled behind (gained (views.at (views.Before n)) (simple_entered assigning.simple)))
 
   -- after the body of a definition
   module _ (by : FlowRule) (y : Around) (q : Seen) (n offset : ℕ) (name : Text) (body : Command) (rs : p.Redirects)

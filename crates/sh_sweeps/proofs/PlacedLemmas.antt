@@ -300,7 +300,7 @@ module _ (s : Subject) where
   items_rest by y o i [] js part = last_part s _ (e.items_entered F2 y (item_left o i) (items_from s.script.now js)) part
   items_rest by y o i (j ∷ is) js part = items_rest F2 y (item_left o i) j is js (last_part s _ (e.items_entered F2 y (item_left o i) (items_from s.script.now (j ∷ (is ++ js)))) part)
 
-  after_some : (o : After) (is js : List Item) → e.items_after o (items_from s.script.now (is ++ js)) ≡ e.items_after (e.items_after o (items_from s.script.now is)) (items_from s.script.now js)
+  pub after_some : (o : After) (is js : List Item) → e.items_after o (items_from s.script.now (is ++ js)) ≡ e.items_after (e.items_after o (items_from s.script.now is)) (items_from s.script.now js)
   unfolding e.items_after items_from
   after_some o [] js = refl
   after_some o (i ∷ is) js = after_some (item_left o i) is js
@@ -335,14 +335,16 @@ module _ (s : Subject) where
       }
 
   -- the list of an item that is no asynchronous one, and of one that is
-  pub foreground_placed : (y : Around) (at : Course) (i : Item) (is : List Item) (k : Facts) → (out-Item i).background ≡ false → k ≡ in_any_case (known_behind s at.behind)
+  pub foreground_within : (y : Around) (at : Course) (i : Item) (is : List Item) (k : Facts) → (out-Item i).background ≡ false → ((q : Seen) → Knows s q (in_any_case (known_behind s at.behind)) → Knows s q k)
       → (c : kept.Certificate) → AreNumbered s.names.now → IsOver s c → AreItems s at.by y (known_behind s at.behind) (i ∷ is) → IsAndOr s at.by y k (out-Item i).list
   unfolding e.item_rule e.item_around e.item_seen
-  foreground_placed y at i is k own same c h over here =
+  foreground_within y at i is k own known c h over here =
       subst (λ b. IsAndOr s (e.item_rule b at.by) (e.item_around b y) k (out-Item i).list) own
-      (and_or_placed y at i is k
-      (subst (λ b. (q : Seen) → Knows s q (in_any_case (known_behind s at.behind)) → Knows s (e.item_seen b q) k) (sym own) (λ q w. subst (Knows s q) (sym same) w))
-      c h over here)
+      (and_or_placed y at i is k (subst (λ b. (q : Seen) → Knows s q (in_any_case (known_behind s at.behind)) → Knows s (e.item_seen b q) k) (sym own) known) c h over here)
+
+  pub foreground_placed : (y : Around) (at : Course) (i : Item) (is : List Item) (k : Facts) → (out-Item i).background ≡ false → k ≡ in_any_case (known_behind s at.behind)
+      → (c : kept.Certificate) → AreNumbered s.names.now → IsOver s c → AreItems s at.by y (known_behind s at.behind) (i ∷ is) → IsAndOr s at.by y k (out-Item i).list
+  foreground_placed y at i is k own same = foreground_within y at i is k own (λ q w. subst (Knows s q) (sym same) w)
 
   pub background_placed : (y : Around) (at : Course) (i : Item) (is : List Item) (k : Facts) → (out-Item i).background ≡ true
       → ((q : Seen) → Knows s q (in_any_case (known_behind s at.behind)) → Knows s (views.without_job q) k)

@@ -1,5 +1,5 @@
 -- A sweep over the commands of a script stays above each certificate that keeps the rules.
-use Rattle.std.proofs.Common.{◌≡◌, ℕ, ◌≤◌, Bool, true, false, List, ◌++◌, append_assoc, length, refl, sym, ap, ◌∙◌, subst, arith, ◌+◌}
+use Rattle.std.proofs.Common.{◌≡◌, ℕ, ◌≤◌, Bool, true, false, List, ◌++◌, append_assoc, length, refl, sym, ap, ◌∙◌, subst, arith}
 use Rattle.sh_domain.specs.declared.certificate.Certificate as kept
 use Rattle.sh_domain.specs.Entries.{Entered}
 use Rattle.sh_domain.specs.Knowledge.{AreNumbered}

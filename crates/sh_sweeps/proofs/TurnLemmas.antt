@@ -30,7 +30,7 @@ use Rattle.sh_drafts.specs.Places.{at, place_of, claim_there, is_stated_part}
 use Rattle.sh_drafts.specs.Stated.{asked_bounds, is_asked, is_free}
 use Rattle.sh_sweeps.specs.Asked.{gathered_of, IsNew}
 use Rattle.sh_drafts.specs.Turns.{AreNumbers, IsQuiet, Stands, StatedStays, sheet_by, IsSunk, IsTurn}
-use Rattle.sh_drafts.specs.Working.{Sets, claims, dropped, IsWorking, IsLowered, IsCounted, height}
+use Rattle.sh_drafts.specs.Working.{Sets, dropped, IsWorking, IsLowered, IsCounted, height}
 use Rattle.sh_drafts.proofs.AboveLemmas.{lowered_above, counted_above}
 use Rattle.sh_drafts.proofs.GatherLemmas.{all_kept, numbered_only, stands_all}
 use Rattle.sh_drafts.proofs.ReadyLemmas.{lowered_stays}

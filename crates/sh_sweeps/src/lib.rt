@@ -18,7 +18,7 @@ pub use before::lower_before;
 pub use claims::claims_of;
 pub use gather::Gather;
 pub use lower::lower_gathered;
-pub use plain::{carried, carry_on};
+pub use plain::carry_over;
 pub use sides::Sides;
 pub use slots::spot_of;
 pub use stated::Unstated;

@@ -1,24 +1,33 @@
-//! Utilities that leave what is known after their words. What is known is carried over them, and
-//! nothing is lowered there yet (XCU 2.9.1).
-ghost use Rattle.std.specs.Prelude.{◌≡◌, ◌∷◌, [], ℕ, List, true, false, IfSome};
+//! Commands over which what is known is carried: utilities that leave what is known after their
+//! words, and assignments alone. Nothing is lowered there yet (XCU 2.9.1).
+ghost use Rattle.std.specs.Prelude.{◌≡◌, ◌∷◌, ◌<◌, ◌≤◌, ◌-◌, [], ℕ, List, true, false, length, take, drop, IfSome};
+ghost use Rattle.std.specs.List.{list_all};
+ghost use Rattle.sh_tree.specs.Lists.{elements_from, items_from};
 ghost use Rattle.sh_tree.specs.standard.Words.{elements_of};
 ghost use Rattle.sh_tree.specs.declared.tree.Command.{out-Command};
-ghost use Rattle.sh_tree.specs.declared.tree.Item as tree;
+ghost use Rattle.sh_tree.specs.declared.tree.Command as tree;
 ghost use Rattle.sh_tree.specs.declared.tree.Part.TheVariants as part;
 ghost use Rattle.sh_table.specs.standard.Kinds as kinds;
 ghost use Rattle.sh_table.specs.standard.runs.Environment.{is_one_of};
 ghost use Rattle.sh_table.specs.declared.kind.Kind.TheVariants as kind;
+ghost use Rattle.sh_domain.specs.declared.rule.FlowRule as rule;
 ghost use Rattle.sh_domain.specs.Admitted.{functions_in};
 ghost use Rattle.sh_domain.specs.Entries as entries;
-ghost use Rattle.sh_sweeps.specs.Plain.{IsAlone, IsNamed, IsPlain, IsSimple};
-ghost use Rattle.sh_sweeps.specs.Sweeps.{AreItems, IsPassed, known_behind};
+ghost use Rattle.sh_domain.specs.Knowledge.{knowledge_facts};
+ghost use Rattle.sh_domain.specs.Table.{assignments_gains, behind_words};
+ghost use Rattle.sh_domain.specs.Views.{Seen, gaining};
+ghost use Rattle.sh_rules.specs.Behind.{both};
+ghost use Rattle.sh_sweeps.specs.Plain.{IsAlone, IsAssigning, IsCarried, IsItemCarried, IsNamed, IsPlain, IsSimple, is_assignment, joined};
+ghost use Rattle.sh_sweeps.specs.Sweeps.{AreItems, ArePassed, Knows, known_behind};
 ghost use Rattle.sh_drafts.specs.Ready.{IsReady};
 
-use crate::known::behind_operands;
+use crate::claims::claims_of;
 use sh_domain::{Certificate, FlowRule};
 use sh_drafts::inner::is_in_elements;
 use sh_drafts::{Draft, Subject};
+use sh_gains::{Known, gain_operands};
 use sh_rules::Course;
+use sh_rules::elements::gain_assignments;
 use sh_table::{Kind as Meaning, kind_of};
 use sh_tree::{Command, Element, Item, Kind, Part, Span, Word};
 use sh_worklist::does_item_wait;
@@ -74,61 +83,170 @@ fn is_utility(subject: &Subject<'_>, name: &[u8]) -> bool
     matches!(kind_of(name), Meaning::Utility) && !subject.table.is_function(name)
 }
 
-// The command of an item, if it is a utility alone that leaves what is known after its words.
-fn plain_command<'a>(subject: &Subject<'_>, item: &'a Item) -> Option<&'a Command>
-    ensures alone { IfSome result (λ command. IsAlone item.entry.now command.now) }
-    ensures plain { IfSome result (λ command. IsPlain subject.now command.now) }
+// Whether the elements are a utility that leaves what is known after its words.
+fn is_plain(subject: &Subject<'_>, elements: &[Element]) -> bool
+    ensures { result ≡ true → (command : tree.Command) → IsSimple command elements.now → IsPlain subject.now command }
 {
-    let command = lone_command(item)?;
-    let elements = simple_elements(command)?;
-    let name = plain_name(elements)?;
-    if is_utility(subject, name.text(subject.script)) {
-        Some(command)
-    } else {
-        None
+    match plain_name(elements) {
+        Some(name) => is_utility(subject, name.text(subject.script)),
+        None => false,
     }
 }
 
-/// The command of an item, if it is a utility over which what is known is carried: a hint. It is
-/// not carried over the last item of a list, since what the list leaves is read off that one, nor
-/// over one that waits or holds commands.
-pub fn carried<'a>(
-    subject: &Subject<'_>,
-    draft: &Draft,
-    is_last: bool,
-    item: &'a Item,
-) -> Option<&'a Command>
-    ensures alone { IfSome result (λ command. IsAlone item.entry.now command.now) }
-    ensures plain { IfSome result (λ command. IsPlain subject.now command.now) }
+#[tactic(auto, unfolding(crate::specs::Plain::is_assignment))]
+fn is_assignment(element: &Element) -> bool
+    ensures { result ≡ is_assignment element.now }
 {
-    if is_last || !draft.carries() || does_item_wait(&draft.waiting, item) {
-        return None;
+    match element {
+        Element::Assignment { .. } => true,
+        Element::Word(_) => false,
+        Element::Redirection(_) => false,
     }
-    let command = plain_command(subject, item)?;
-    if is_in_elements(command.elements()) {
-        return None;
-    }
-    Some(command)
 }
 
-/// Goes on after a utility that leaves what is known after its words, whatever is claimed there.
-pub fn carry_on(
+// Whether the elements are assignments alone.
+fn are_assignments(elements: &[Element]) -> bool
+    ensures { result ≡ list_all is_assignment elements.now }
+{
+    elements.iter().all(|element| is_assignment(element))
+}
+
+// What is known after the command name and the operands too.
+fn gain_words(
     subject: &Subject<'_>,
     certificate: &Certificate,
-    course: &mut Course,
-    item: &Item,
-    command: &Command,
+    elements: &[Element],
+    known: &mut Known<'_>,
 )
     requires ready { (probed : ℕ) × IsReady subject.now certificate.now probed }
-    requires alone { IsAlone item.now command.now }
-    requires plain { IsPlain subject.now command.now }
-    requires placed { (y : entries.Around) × (others : List tree.Item) × AreItems subject.now course.old.by y (known_behind subject.now course.old.behind) (item.now ∷ others) }
-    ensures { IsPassed subject.now course.old course.new item.now }
+    requires names { known.old.names.now ≡ subject.now.names.now }
+    ensures names { known.new.names.now ≡ subject.now.names.now }
+    ensures known { (q : Seen) → Knows subject.now q (knowledge_facts subject.now.names.now known.old.knowledge)
+        → Knows subject.now (behind_words (elements_from subject.now.script.now elements.now) q) (knowledge_facts subject.now.names.now known.new.knowledge) }
 {
-    course.behind.join();
-    let known = &course.behind.zero;
-    let behind = behind_operands(subject, certificate, command.elements(), known);
-    course.behind.zero = behind;
-    course.behind.nonzero = behind;
+    gain_operands(elements, subject.script, known);
+}
+
+// What the assignments leave set too.
+fn gain_values(
+    subject: &Subject<'_>,
+    certificate: &Certificate,
+    elements: &[Element],
+    known: &mut Known<'_>,
+)
+    requires ready { (probed : ℕ) × IsReady subject.now certificate.now probed }
+    requires names { known.old.names.now ≡ subject.now.names.now }
+    ensures names { known.new.names.now ≡ subject.now.names.now }
+    ensures known { (q : Seen) → Knows subject.now q (knowledge_facts subject.now.names.now known.old.knowledge)
+        → Knows subject.now (gaining (assignments_gains (elements_from subject.now.script.now elements.now)) q) (knowledge_facts subject.now.names.now known.new.knowledge) }
+{
+    let claims = claims_of(subject, certificate);
+    gain_assignments(&claims, elements, &mut known.knowledge);
+}
+
+// Goes on after a simple command, if it is plain or assignments alone. Reports whether it is.
+fn carry_elements(
+    subject: &Subject<'_>,
+    certificate: &Certificate,
+    elements: &[Element],
+    known: &mut Known<'_>,
+) -> bool
+    requires ready { (probed : ℕ) × IsReady subject.now certificate.now probed }
+    requires names { known.old.names.now ≡ subject.now.names.now }
+    ensures names { known.new.names.now ≡ subject.now.names.now }
+    ensures carried { result ≡ true → (command : tree.Command) → IsSimple command elements.now → IsCarried subject.now command known.old.knowledge known.new.knowledge }
+    ensures stays { result ≡ false → known.new.knowledge ≡ known.old.knowledge }
+{
+    if is_plain(subject, elements) {
+        gain_words(subject, certificate, elements, known);
+        return true;
+    }
+    if !are_assignments(elements) {
+        return false;
+    }
+    gain_words(subject, certificate, elements, known);
+    gain_values(subject, certificate, elements, known);
+    true
+}
+
+// Goes on after an item, if it is a command over which what is known is carried: a hint. It is not
+// carried over an item that waits or holds commands. Reports whether it goes on.
+fn carry_item(subject: &Subject<'_>, draft: &Draft, item: &Item, known: &mut Known<'_>) -> bool
+    requires ready { IsReady subject.now draft.now.certificate draft.now.probe.count }
+    requires names { known.old.names.now ≡ subject.now.names.now }
+    ensures names { known.new.names.now ≡ subject.now.names.now }
+    ensures carried { result ≡ true → IsItemCarried subject.now item.now known.old.knowledge known.new.knowledge }
+    ensures stays { result ≡ false → known.new.knowledge ≡ known.old.knowledge }
+{
+    let Some(command) = lone_command(item) else {
+        return false;
+    };
+    let Some(elements) = simple_elements(command) else {
+        return false;
+    };
+    if does_item_wait(&draft.waiting, item) || is_in_elements(elements) {
+        return false;
+    }
+    carry_elements(subject, &draft.certificate, elements, known)
+}
+
+// Goes on after the items from a place on over which what is known is carried, except the last of
+// the list. Gives the place of the next one.
+fn carry_run(
+    subject: &Subject<'_>,
+    draft: &Draft,
+    items: &[Item],
+    place: usize,
+    known: &mut Known<'_>,
+) -> usize
+    requires ready { IsReady subject.now draft.now.certificate draft.now.probe.count }
+    requires names { known.old.names.now ≡ subject.now.names.now }
+    requires within { place < length items.now }
+    requires placed { (by : rule.FlowRule) × (y : entries.Around) × AreItems subject.now by y (both (knowledge_facts subject.now.names.now known.old.knowledge)) (drop place items.now) }
+    ensures from { place ≤ result }
+    ensures there { result < length items.now }
+    ensures passed { ArePassed subject.now (joined known.old.knowledge) (joined known.new.knowledge) (take (result - place) (drop place items.now)) }
+{
+    let mut next = place;
+    while next < items.len() - 1 {
+        if !carry_item(subject, draft, &items[next], known) {
+            return next;
+        }
+        next += 1;
+    }
+    next
+}
+
+/// Goes on after the items from a place on over which what is known is carried, whatever is claimed
+/// there. Gives the place of the next one. The last item of a list is none of them, since what the
+/// list leaves is read off that one.
+pub fn carry_over(
+    subject: &Subject<'_>,
+    draft: &Draft,
+    course: &mut Course,
+    items: &[Item],
+    place: usize,
+) -> usize
+    requires ready { IsReady subject.now draft.now.certificate draft.now.probe.count }
+    requires within { place < length items.now }
+    requires placed { (y : entries.Around) × AreItems subject.now course.old.by y (known_behind subject.now course.old.behind) (drop place items.now) }
+    ensures from { place ≤ result }
+    ensures there { result < length items.now }
+    ensures passed { ArePassed subject.now course.old course.new (take (result - place) (drop place items.now)) }
+{
+    if !draft.carries() {
+        return place;
+    }
+    let mut known = Known {
+        names: subject.names,
+        knowledge: course.behind.in_any_case(),
+    };
+    let next = carry_run(subject, draft, items, place, &mut known);
+    if next == place {
+        return place;
+    }
+    course.behind.zero = known.knowledge;
+    course.behind.nonzero = known.knowledge;
     course.by = FlowRule::F2;
+    next
 }

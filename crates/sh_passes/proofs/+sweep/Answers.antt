@@ -628,6 +628,16 @@ choices::sweep_clause-returns-clause-swept = choices.sweep_clause-returns-clause
 pub choices::sweep_cond-returns-in-Some : goal.choices::sweep_cond-returns-in-Some
 choices::sweep_cond-returns-in-Some = choices.sweep_cond-returns-in-Some
 
+pub sweep::sweep_items-pass_idle-requires : goal.sweep::sweep_items-pass_idle-requires
+sweep::sweep_items-pass_idle-requires t c =
+    let s = c.args.subject.now in
+    let r = c.requires.ready in
+    let course = c.loop-place.course in
+    let y = walks.around s.script.now c.args.around.now in
+    let ready : IsReady s c.loop-place.draft.certificate c.loop-place.draft.probe.count = ready_again s _ _ _ _ r c.loop-place.invariant.swept in
+    let placed : (y : Around) × AreItems s course.by y (known_behind s course.behind) (drop c.loop-place.place c.args.items.now) = (y, c.loop-place.invariant.placed) in
+    search std_rules
+
 pub sweep::sweep_items-sweep_or_pass-requires : goal.sweep::sweep_items-sweep_or_pass-requires
 sweep::sweep_items-sweep_or_pass-requires t c =
     let s = c.args.subject.now in
