@@ -11,7 +11,8 @@ use crate::circles::Way;
 use crate::equations::{Count, Equation, Equations};
 use crate::users::Users;
 use std::alloc::{AllocError, Global};
-use std::collections::VecDeque;
+use std::cmp::Reverse;
+use std::collections::BinaryHeap;
 
 /// Counts that only fall, and a queue of those that fell and wait, each at most once.
 #[derive(Drop)]
@@ -19,8 +20,12 @@ struct Falling {
     counts: Vec<u16>,
     // The equation by which each count fell last: a hint.
     reasons: Vec<Option<Equation>>,
-    queue: VecDeque<usize>,
+    // The turns of those that wait. Turns go over all counts by their indices, round by round, so a
+    // count comes after those before it in the script: a hint.
+    queue: BinaryHeap<Reverse<u64>>,
     waiting: Vec<bool>,
+    // The last turn.
+    turn: u64,
     // How often a count fell since circles were looked for.
     falls: usize,
 }
@@ -43,8 +48,9 @@ impl Falling {
         Ok(Falling {
             counts,
             reasons,
-            queue: VecDeque::new(alloc),
+            queue: BinaryHeap::new(alloc),
             waiting,
+            turn: 0,
             falls: 0,
         })
     }
@@ -65,22 +71,36 @@ impl Falling {
         }
     }
 
+    // The next turn of a count of so many.
+    fn next_turn(&self, index: usize, counts: u64) -> u64 {
+        let place = self.turn.checked_rem(counts).unwrap_or(0);
+        let next = self.turn.saturating_sub(place).saturating_add(index as u64);
+        if next > self.turn {
+            next
+        } else {
+            next.saturating_add(counts)
+        }
+    }
+
     // Puts a count that fell into the queue, unless it is in it.
     fn wait(&mut self, index: usize) -> Result<(), AllocError>
         ensures { self.new.counts ≡ self.old.counts }
     {
         if index < self.waiting.len() && !self.waiting[index] {
             self.waiting[index] = true;
-            self.queue.push_back(index)?;
+            let turn = self.next_turn(index, self.waiting.len() as u64);
+            self.queue.push(Reverse(turn))?;
         }
         Ok(())
     }
 
-    // Takes the count that waits longest from the queue.
+    // Takes the count whose turn is next from the queue.
     fn take(&mut self) -> Option<usize>
         ensures { self.new.counts ≡ self.old.counts }
     {
-        let index = self.queue.pop_front()?;
+        let Reverse(turn) = self.queue.pop()?;
+        self.turn = turn;
+        let index = turn.checked_rem(self.waiting.len() as u64)? as usize;
         if index < self.waiting.len() {
             self.waiting[index] = false;
         }
