@@ -490,10 +490,12 @@ ROUND = {
     "fall": ("while :; do case x in a) shift ;& b) : ;; esac\n", "done\n"),
     "last fall": ("while :; do case x in *) shift ;& esac\n", "done\n"),
     "operators": ("x=${y-$(while :; do shift\n", "done)}\n"),
+    "patterns": ("case x in $(while :; do shift\n", "done)) ;; esac\n"),
     "redirected call": ("d() { exit; }\nwhile :; do shift; d >f\n", "done\n"),
     "redirected true": ("while :; do shift; true >f && break\n", "done\n"),
     "sums": ("x=$(($(while :; do shift\n", "done)))\n"),
     "unmatched": ("while :; do shift; case $x in a) exit ;; esac\n", "done\n"),
+    "unsure call": ("a && d() { exit; }\nwhile :; do shift; d\n", "done\n"),
 }
 
 # By its name, how a script is made, and with which options it is read.

@@ -1,14 +1,16 @@
 -- A view bounds the count of positional parameters.
-use Rattle.std.proofs.Common.{ℕ, ◌*◌, ◌≤◌, Bool, true, false, if◌then◌else◌, List, [], ◌∷◌, ◌++◌, arith}
+use Rattle.std.proofs.Common.{ℕ, ◌*◌, ◌≤◌, max, Bool, true, false, ◌||◌, if◌then◌else◌, List, [], ◌∷◌, ◌++◌, sym, subst, arith}
 use Rattle.std.proofs.Math.Nat.{mul-le-mul_left}
 use Rattle.sh_tree.specs.standard.program.Syntax.{Text}
+use Rattle.sh_table.specs.standard.runs.Environment.{is_one_of}
 use Rattle.sh_domain.specs.Facts.{Facts, NotReached, Known, facts, meet}
-use Rattle.sh_domain.specs.Gains.{with_gains}
+use Rattle.sh_domain.specs.Gains.{Gains, with_gains}
 use Rattle.sh_domain.specs.Operands.{Names}
 use Rattle.sh_domain.specs.Order.{IsWithin, seen_facts}
-use Rattle.sh_domain.specs.Views.{Certificate, Step, Gain, Define, Lose, Count, Shift, Call, At, View, Seen, where_known, returned, left, called, step, steps, source_facts, view_facts}
+use Rattle.sh_domain.specs.Views.{Certificate, Step, Gain, Define, Lose, Count, Shift, Call, At, Slot, View, Seen, at, gaining, stepped, where_known, returned, left, called, step, steps, source_facts, view_facts}
 use Rattle.sh_domain.proofs.OrderLemmas.{known_parts, nowhere_known}
 use Rattle.sh_tally.specs.Counts.{HasAtMost, made_by, all_made, Passes, AllPass, ViewsBoundCounts}
+use Rattle.sh_tally.specs.Walks.{MayLack}
 
 -- what claims no more has no more
 pub within_at_most : (n : ℕ) (f g : Facts) → IsWithin f g → HasAtMost n g → HasAtMost n f
@@ -65,3 +67,23 @@ seen_at_most d c v (w ∷ front) back n h = meet_second n (view_facts d c w) (se
 pub views_bound_counts : ViewsBoundCounts
 unfolding source_facts
 views_bound_counts d c slot xs front back n h p = seen_at_most d c (record { source = At slot; steps = xs }) front back (all_made xs n) (steps_at_most c xs n (facts (c.claim slot)) p h)
+
+-- after a call of a function that may be undefined
+unsure_at_most : (n : ℕ) (d : Names) (r : Facts) (function : Text) (names : List Text) (f : Facts) → MayLack function f → HasAtMost n f → HasAtMost n (called d r function names f)
+unfolding HasAtMost MayLack called where_known
+unsure_at_most n d r function names NotReached lacks h = absurd h
+unsure_at_most n d r function names (Known v f a) lacks h =
+    subst (λ sure. HasAtMost n (if sure then returned d names r v f a else left d function v f a)) (sym lacks) h
+
+behind_gains : (c : Certificate) (return : Slot) (g : Gains) (function : Text) (names : List Text) (n : ℕ) (f : Facts) → MayLack function f → HasAtMost n (meet (steps c (Gain g ∷ []) f) NotReached)
+    → HasAtMost n (meet (steps c (Gain g ∷ Call function return names ∷ []) f) NotReached)
+unfolding HasAtMost MayLack meet steps step with_gains
+behind_gains c return g function names n NotReached lacks h = absurd h
+behind_gains c return g function names n (Known v f a) lacks h =
+    let known : Facts = Known (λ x. is_one_of g.names x || v x) f (max a g.args) in
+    meet_first n (called (c.drops function) (facts (c.claim return)) function names known) NotReached (unsure_at_most n (c.drops function) (facts (c.claim return)) function names known lacks h)
+
+pub unsure_bounds_counts : (d : Facts) (c : Certificate) (slot return : Slot) (g : Gains) (function : Text) (names : List Text) (n : ℕ) → MayLack function (facts (c.claim slot))
+    → HasAtMost n (seen_facts d c (gaining g (at slot))) → HasAtMost n (seen_facts d c (stepped (Call function return names) (gaining g (at slot))))
+unfolding seen_facts source_facts
+unsure_bounds_counts d c slot return g function names n lacks h = behind_gains c return g function names n (facts (c.claim slot)) lacks h

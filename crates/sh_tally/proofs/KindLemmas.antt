@@ -9,7 +9,7 @@ use Rattle.sh_tree.specs.declared.tree.Command.{Command, out-Command}
 use Rattle.sh_tree.specs.declared.tree.Kind.{Kind}
 use Rattle.sh_tree.specs.declared.tree.Script.{Script}
 use Rattle.sh_tree.specs.declared.tree.Word.{Word}
-use Rattle.sh_tree.specs.Lists.{branches_from, clauses_from, words_from}
+use Rattle.sh_tree.specs.Lists.{branches_from, clauses_from, parts_from, words_from}
 use Rattle.sh_tree.specs.standard.program.Syntax as p
 use Rattle.sh_tree.specs.standard.program.Syntax.{Text}
 use Rattle.sh_tree.specs.standard.program.Trees as trees
@@ -65,6 +65,30 @@ always_same b (c ∷ cs) = ap₂ (λ x y. x || y) (patterns_same b (out-Clause c
 each_first : {A : Type 0} (P : A → Type 0) (x : A) (xs : List A) → Each P (x ∷ xs) → P x
 unfolding Each
 each_first P x xs all = all.0
+
+-- what is added for patterns, of which these are left
+pub record PatternsLeft (s : Tally) (known : Views) (all : List Word) (old : Equations) (rest : List Word) (now : Equations) : Type 0 where
+  pub adds : (t : p.Items) (u : ℕ → ℕ) (q : Seen) → Keeps s t u → Sight s q known → IsPart t (e.patterns_entered q (words_from s.script.now all))
+      → IsPart t (e.patterns_entered q (words_from s.script.now rest)) × Tallies s.places u old now
+
+module _ (s : Tally) (known : Views) (all : List Word) where
+  pub patterns_begun : (old : Equations) → PatternsLeft s known all old all old
+  patterns_begun old = record { adds = λ t u q k sight part. (part, λ tallied. tallied) }
+
+  pub patterns_next : (left : Views) (old mid new : Equations) (w : Word) (ws : List Word) → PatternsLeft s known all old (w ∷ ws) mid
+      → Passes s (λ q. e.word_entered q (parts_from s.script.now w.parts)) (word_gains (parts_from s.script.now w.parts)) known left mid new → PatternsLeft s known all old ws new
+  unfolding e.items_entered words_from
+  patterns_next left old mid new w ws before passes = record {
+    adds = λ t u q k sight part.
+        let b : Text = s.script.now in
+        let both = before.adds t u q k sight part in
+        let first : List Entered = e.word_entered q (parts_from b w.parts) in
+        let rest : List Entered = e.patterns_entered q (words_from b ws) in
+        (last_part t first rest both.0, λ tallied. passes.adds t u q k sight (first_part t first rest both.0) (both.1 tallied));
+  }
+
+  pub patterns_added : (old new : Equations) → PatternsLeft s known all old [] new → AddsFrom s (λ q. e.patterns_entered q (words_from s.script.now all)) known old new
+  patterns_added old new before t u q k sight part = (before.adds t u q k sight part).1
 
 module _ (s : Tally) (y : Around) where
   -- what the rules require of a command by its kind, and of its redirections
@@ -277,13 +301,14 @@ module _ (s : Tally) (y : Around) where
     last_kept d c clause.Break rest o kept is = none_left d c
     last_kept d c clause.FallThrough rest o kept is = subst (λ z. Each (Unbroken d c) (if r.is_last clause.FallThrough z then r.leaves n F9 o else [])) is kept
 
-    pub clauses_next : (known fallen both : Views) (all : List Clause) (old mid new : Equations) (x : Clause) (xs : List Clause) (left after : After) → ClausesLeft known all old (x ∷ xs) mid left
+    pub clauses_next : (known fallen both : Views) (all : List Clause) (old before_patterns mid new : Equations) (x : Clause) (xs : List Clause) (left after : After) → ClausesLeft known all old (x ∷ xs) before_patterns left
+        → AddsFrom s (λ q. e.patterns_entered q (words_from s.script.now (out-Clause x).patterns)) known before_patterns mid
         → ((o : views.After) → SightAfter s o left → Sight s (views.in_any_case o) fallen) → ((q : Seen) → Sight s q known → Sight s q fallen → Sight s q both)
         → AddsClause s y n (trees.script_of s.script.now (out-Clause x).body) (out-Clause x).end both mid new
         → ((q : Seen) → Sight s q both → SightAfter s (falling (out-Clause x).end (e.items_after (views.Both q) (trees.script_of s.script.now (out-Clause x).body))) after)
         → ClausesLeft known all old xs new after
     unfolding e.items_entered r.clauses_bounds clauses_from
-    clauses_next known fallen both all old mid new x xs left after before any join adds leaves = record {
+    clauses_next known fallen both all old before_patterns mid new x xs left after before adds_patterns any join adds leaves = record {
       adds = λ t u q from k sight part kept.
           let at = before.adds t u q from k sight part kept in
           let body : p.Items = trees.script_of s.script.now (out-Clause x).body in
@@ -297,7 +322,8 @@ module _ (s : Tally) (y : Around) where
           let rest : List Entered = e.clauses_entered y q (e.falls end behind) (clauses_from s.script.now xs) in
           let ends : List Constraint = if r.is_last end (clauses_from s.script.now xs) then r.leaves n F9 behind else [] in
           let parts = each_parts (Unbroken k.known k.claims) ends (r.clauses_bounds n q (e.falls end behind) (clauses_from s.script.now xs)) at.kept in
-          let own : IsPart t first = last_part t patterns first (first_part t (patterns ++ first) rest at.part) in
+          let front : IsPart t (patterns ++ first) = first_part t (patterns ++ first) rest at.part in
+          let own : IsPart t first = last_part t patterns first front in
           record {
             into = falling end behind;
             sight = leaves seen here;
@@ -306,7 +332,7 @@ module _ (s : Tally) (y : Around) where
             out = falling end behind;
             last = leaves seen here;
             ended = last_kept k.known k.claims end (clauses_from s.script.now xs) behind parts.0;
-            tallies = λ tallied. adds t u seen k here own (break_kept k.known k.claims end (clauses_from s.script.now xs) (r.leaves n F9 behind) parts.0) (at.tallies tallied);
+            tallies = λ tallied. adds t u seen k here own (break_kept k.known k.claims end (clauses_from s.script.now xs) (r.leaves n F9 behind) parts.0) (adds_patterns t u q k sight (first_part t patterns first front) (at.tallies tallied));
           };
     }
 

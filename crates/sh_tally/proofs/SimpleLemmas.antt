@@ -1,6 +1,6 @@
 -- What a simple command requires of counts after it, and at the entry of the function that it
 -- calls.
-use Rattle.std.proofs.Common.{◌≡◌, ℕ, zero, suc, ◌+◌, ◌-◌, ◌*◌, ◌<◌, ◌≤◌, min, max, drop, fold, map, take, get_or, length, Bool, true, false, not, ◌&&◌, if◌then◌else◌, List, [], ◌∷◌, ◌++◌, append_assoc, Option, Some, None, is_some, unwrap_or, option_map, IfSome, ⊎_elim, refl, sym, ap, ap₂, ◌∙◌, subst, arith, true≢false}
+use Rattle.std.proofs.Common.{◌≡◌, ℕ, zero, suc, ◌+◌, ◌-◌, ◌*◌, ◌<◌, ◌≤◌, min, max, drop, fold, map, take, get_or, length, Bool, true, false, not, ◌&&◌, if◌then◌else◌, List, [], ◌∷◌, ◌++◌, append_assoc, Option, Some, None, is_some, unwrap_or, option_map, IfSome, ◌⊎◌, ⊎_elim, refl, sym, ap, ap₂, ◌∙◌, subst, arith, true≢false}
 use Rattle.std.proofs.Math.Nat.{mul-le-mul_left}
 use Rattle.std.proofs.lemmas.Bool.{cases_lt}
 use Rattle.std.proofs.lemmas.List.{take_all}
@@ -8,7 +8,7 @@ use Rattle.sh_tree.specs.declared.known.KnownName.{KnownName}
 use Rattle.sh_tree.specs.declared.known.KnownName.TheVariants as known
 use Rattle.sh_tree.specs.standard.program.Syntax as p
 use Rattle.sh_tree.specs.standard.program.Syntax.{Text, Word}
-use Rattle.sh_tree.specs.standard.program.Words.{redirects_in, static_of}
+use Rattle.sh_tree.specs.standard.program.Words.{operands_in, redirects_in, static_of}
 use Rattle.sh_table.specs.Counts as counts'
 use Rattle.sh_table.specs.Counts.{Parameters, One, Nothing, count_of}
 use Rattle.sh_table.specs.Profile.{Static}
@@ -24,9 +24,9 @@ use Rattle.sh_operands.specs.Texts.{positional_at}
 use Rattle.sh_domain.specs.declared.rule.FlowRule.{FlowRule}
 use Rattle.sh_domain.specs.declared.rule.FlowRule.TheVariants.{F4, F5, F14}
 use Rattle.sh_domain.specs.Entries.{Around, script_entered}
-use Rattle.sh_domain.specs.Facts.{facts}
+use Rattle.sh_domain.specs.Facts.{Facts, NotReached, Known, facts}
 use Rattle.sh_domain.specs.Faults.{broken}
-use Rattle.sh_domain.specs.Gains.{Gains, and_gains, named}
+use Rattle.sh_domain.specs.Gains.{Gains, and_gains, named, words_gains}
 use Rattle.sh_domain.specs.Inclusions.{Each}
 use Rattle.sh_domain.specs.Names.{number_of}
 use Rattle.sh_domain.specs.Operands.{Total, declared_names, first_number, runs_command, total, unset_names}
@@ -48,16 +48,17 @@ use Rattle.sh_rules.specs.TextBounds.{behind_name}
 use Rattle.sh_rules.specs.Texts.{first_by, positional_by}
 use Rattle.sh_rules.proofs.OperandLemmas.{first_words, positional_of_words}
 use Rattle.sh_tally.specs.declared.bounds.Tally.{Tally}
+use Rattle.sh_tally.specs.declared.places.End.{End}
 use Rattle.sh_tally.specs.declared.places.End.TheVariants as end
 use Rattle.sh_tally.specs.declared.places.Part.TheVariants as part
 use Rattle.sh_tally.specs.declared.views.After.{After}
 use Rattle.sh_tally.specs.declared.views.View as handle
 use Rattle.sh_tally.specs.declared.views.Views.{Views}
 use Rattle.sh_tally.specs.Counts.{AllPass, HasAtMost, Passes, all_made, made_by, shift_step}
-use Rattle.sh_tally.specs.Tallies.{AreBounds, Bounds, Tallies}
+use Rattle.sh_tally.specs.Tallies.{AreBounds, Bounds, Tallies, claimed}
 use Rattle.sh_tally.specs.Views.{Sees, command_index, function_index, index_of}
-use Rattle.sh_tally.specs.Walks.{AddsFailed, AddsFunction, AddsLeaves, AddsManner, AddsReturn, AddsSimple, AreKept, AreTexts, IsBehind, IsReached, Keeps, Sight, SightAfter, names}
-use Rattle.sh_tally.proofs.CountLemmas.{views_bound_counts, within_at_most}
+use Rattle.sh_tally.specs.Walks.{AddsFailed, AddsFunction, AddsLeaves, AddsManner, AddsReturn, AddsSimple, AreKept, AreTexts, IsBehind, IsReached, IsUnsure, Keeps, Sight, SightAfter, names}
+use Rattle.sh_tally.proofs.CountLemmas.{unsure_bounds_counts, views_bound_counts, within_at_most}
 use Rattle.sh_tally.proofs.ViewLemmas.{made_then, map_middle, pass_then, see_lost, see_named, see_right}
 use Rattle.sh_tally.proofs.WalkLemmas.{count_at_most, count_below, entered_within, place_bounds}
 
@@ -224,6 +225,23 @@ module _ (s : Tally) (t : p.Items) (u : ℕ → ℕ) (k : Keeps s t u) where
     makes = makes.makes;
   }
 
+  at_most_more : (m n : ℕ) (f : Facts) → m ≤ n → HasAtMost m f → HasAtMost n f
+  unfolding HasAtMost
+  at_most_more m n NotReached le h = absurd h
+  at_most_more m n (Known v g a) le h = omega (arith, le, h)
+
+  -- what is seen has no more than the view
+  seen_most : (q : Seen) (h : handle.View) (b : ℕ) → claimed s.places h.source.index ≡ Some b → Sees (names s) q h → HasAtMost (max (u h.source.index) h.least) (seen_facts k.known k.claims q)
+  seen_most q h b there sees =
+      let v : View = sees.view in
+      let from : Slot = sees.shows.slot in
+      let known = count_at_most (u h.source.index) (facts (k.claims.claim from)) (k.counts from h.source.index b sees.shows.place there) in
+      let seen : HasAtMost (all_made v.steps (u h.source.index)) (seen_facts k.known k.claims (sees.front ++ (record { source = At from; steps = v.steps } ∷ sees.back))) =
+      views_bound_counts k.known k.claims from v.steps sees.front sees.back (u h.source.index) known (sees.shows.passes k.claims) in
+      let same : sees.front ++ (record { source = At from; steps = v.steps } ∷ sees.back) ≡ q =
+      ap (λ z. sees.front ++ (record { source = z; steps = v.steps } ∷ sees.back)) (sym sees.shows.source) ∙ sym sees.one in
+      at_most_more _ _ (seen_facts k.known k.claims q) (sees.shows.made (u h.source.index)) (subst (λ z. HasAtMost (all_made v.steps (u h.source.index)) (seen_facts k.known k.claims z)) same seen)
+
   makes_bound : (slot : Slot) (place : count.Count) (q : Seen) (h : handle.View) (c : Change) → index_of (names s) slot ≡ Some place.index
       → IsWithin (facts (k.claims.claim slot)) (seen_facts k.known k.claims q) → Makes q h c → Bounds s.places u place c h
   makes_bound slot place q h c at within makes a b low there =
@@ -250,6 +268,30 @@ module _ (s : Tally) (t : p.Items) (u : ℕ → ℕ) (k : Keeps s t u) where
   change_bounds slot place n rule q z c known at all more sees =
       let within = entered_within k.known k.claims slot n rule z all in
       record { first = each_makes slot place q z c known.first at within more sees.first; second = each_makes slot place q z c known.second at within more sees.second }
+
+  -- Bounds over a call of a function that may be undefined
+
+  unsure_bound : (slot return : Slot) (place : count.Count) (n : ℕ) (g : Gains) (f : Text) (ns : List Text) (h : handle.View) → index_of (names s) slot ≡ Some place.index
+      → IsWithin (facts (k.claims.claim slot)) (seen_facts k.known k.claims (stepped (views.Call f return ns) (gaining g (views.at (Before n))))) → IsUnsure s n f
+      → Sees (names s) (gaining g (views.at (Before n))) h → Bounds s.places u place (Raise 0) h
+  unfolding made
+  unsure_bound slot return place n g f ns h at within unsure sees a b low there =
+      let from = seen_most (gaining g (views.at (Before n))) h b there sees in
+      let behind = unsure_bounds_counts k.known k.claims (Before n) return g f ns (max (u h.source.index) h.least) (k.unsure n f unsure) from in
+      let below = count_below (u place.index) _ _ (k.counts slot place.index a at low) (within_at_most _ _ _ within behind) in
+      omega (arith, below)
+
+  each_unsure : (slot return : Slot) (place : count.Count) (n : ℕ) (g : Gains) (f : Text) (ns : List Text) (o : Option handle.View) → index_of (names s) slot ≡ Some place.index
+      → IsWithin (facts (k.claims.claim slot)) (seen_facts k.known k.claims (stepped (views.Call f return ns) (gaining g (views.at (Before n))))) → IsUnsure s n f
+      → IfSome o (Sees (names s) (gaining g (views.at (Before n)))) → IfSome o (Bounds s.places u place (Raise 0))
+  each_unsure slot return place n g f ns None at within unsure sees = tt
+  each_unsure slot return place n g f ns (Some h) at within unsure sees = unsure_bound slot return place n g f ns h at within unsure sees
+
+  pub unsure_bounds : (slot return : Slot) (place : count.Count) (n : ℕ) (rule : FlowRule) (g : Gains) (f : Text) (ns : List Text) (known : Views) → index_of (names s) slot ≡ Some place.index
+      → Each Unbroken (bound slot n rule (stepped (views.Call f return ns) (gaining g (views.at (Before n))))) → IsUnsure s n f → Sight s (gaining g (views.at (Before n))) known → AreBounds s.places u place (Raise 0) known
+  unsure_bounds slot return place n rule g f ns known at all unsure sees =
+      let within = entered_within k.known k.claims slot n rule (stepped (views.Call f return ns) (gaining g (views.at (Before n)))) all in
+      record { first = each_unsure slot return place n g f ns known.first at within unsure sees.first; second = each_unsure slot return place n g f ns known.second at within unsure sees.second }
 
 -- What is known after a simple command
 
@@ -518,9 +560,19 @@ module _ (s : Tally) (y : Around) (n : ℕ) (es : p.Elements) (left : Views) whe
       let a = each_parts (Unbroken s t u k) first second b.0 in
       (a.0, a.1, b.1, c.1)
 
+  -- after a call that may return, or in place of which a utility may run
+  returned_bounds : (t : p.Items) (u : ℕ → ℕ) (k : Keeps s t u) (slot return : Slot) (place : count.Count) (f : Text) (end : End) → index_of (names s) slot ≡ Some place.index
+      → AreKept s t u k (bound slot n F14 (stepped (views.Call f return (prefixes es)) behind)) → (IsReached s end f → Passes k.claims (views.Call f return (prefixes es))) → IsBehind s n es left
+      → IsReached s end f ⊎ IsUnsure s n f → AreBounds s.places u place (Raise 0) left
+  returned_bounds t u k slot return place f end at kept reached here goes =
+      ⊎_elim
+      (λ (is : IsReached s end f). change_bounds s t u k slot place n F14 behind _ (Raise 0) left at kept (λ h. stepped_makes s t u k behind (views.Call f return (prefixes es)) h (Raise 0) (reached is) (call_made f return (prefixes es))) here.words)
+      (λ (is : IsUnsure s n f). unsure_bounds s t u k slot return place n F14 (words_gains (operands_in es)) f (prefixes es) left at kept is here.words)
+      goes
+
   pub call_added : (f : Text) (c : Change) (success failure : count.Count) (old one two three new : Equations) → ((m l : ℕ) → m ≤ l → counted_by (total (behind_name es)) m ≤ made c l)
       → success.index ≡ command_index part.Zero n → failure.index ≡ command_index part.Nonzero n
-      → AddsFunction s end.Entered f left c old one → AddsReturn s success end.Zero f left one two → AddsReturn s failure end.Nonzero f left two three
+      → AddsFunction s end.Entered f left c old one → AddsReturn s n success end.Zero f left one two → AddsReturn s n failure end.Nonzero f left two three
       → AddsFailed s n es left three new → AddsManner s y n es left (table.Call f (behind_name es)) old new
   call_added f c success failure old one two three new more at_zero at_nonzero first second third fourth t u k here kept =
       let ws : List Word = behind_name es in
@@ -529,10 +581,8 @@ module _ (s : Tally) (y : Around) (n : ℕ) (es : p.Elements) (left : Views) whe
       fourth u
       (λ redirected place is. place_bounds s t u k (views.AfterNonzero n) place n F14 behind left (nonzero_index place is)
       (subst (λ b. AreKept s t u k (if b then bound (views.AfterNonzero n) n F14 behind else [])) redirected parts.3) here.words)
-      (third u (λ reached. change_bounds s t u k (views.AfterNonzero n) failure n F14 behind _ (Raise 0) left (nonzero_index failure at_nonzero) parts.2
-      (λ h. stepped_makes s t u k behind (views.Call f (views.ReturnsNonzero f) (prefixes es)) h (Raise 0) (nonzero_reached t u k f (prefixes es) reached) (call_made f (views.ReturnsNonzero f) (prefixes es))) here.words)
-      (second u (λ reached. change_bounds s t u k (views.AfterZero n) success n F14 behind _ (Raise 0) left (zero_index success at_zero) parts.1
-      (λ h. stepped_makes s t u k behind (views.Call f (views.ReturnsZero f) (prefixes es)) h (Raise 0) (zero_reached t u k f (prefixes es) reached) (call_made f (views.ReturnsZero f) (prefixes es))) here.words)
+      (third u (returned_bounds t u k (views.AfterNonzero n) (views.ReturnsNonzero f) failure f end.Nonzero (nonzero_index failure at_nonzero) parts.2 (nonzero_reached t u k f (prefixes es)) here)
+      (second u (returned_bounds t u k (views.AfterZero n) (views.ReturnsZero f) success f end.Zero (zero_index success at_zero) parts.1 (zero_reached t u k f (prefixes es)) here)
       (first u (λ place at. change_bounds s t u k (views.Entry f) place n F14 behind _ c left (entry_index f place at) parts.0
       (λ h sees. named_makes s t u k (stepped (Count (total ws)) behind) (named (prefixes es)) h c refl (stepped_makes s t u k behind (Count (total ws)) h c (count_passes t u k (total ws)) (count_made ws c more) sees)) here.words) tallied)))
 

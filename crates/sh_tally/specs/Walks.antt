@@ -1,7 +1,7 @@
 -- What a walk over a script for its counts does. It adds equations, and each certificate that keeps
 -- the flow rules solves them. It leaves views of what is known after what it went over.
 -- POSIX.1-2024, XCU 2.5.1 (positional parameters), 2.9 (shell commands).
-use Rattle.std.specs.Prelude.{◌≡◌, ℕ, ◌-◌, ◌≤◌, nat_le, max, map, option_map, true, if◌then◌else◌, List, Option, None, Some, [], ◌∷◌, ◌++◌, flat_map}
+use Rattle.std.specs.Prelude.{◌≡◌, ℕ, ◌-◌, ◌≤◌, get_or, nat_le, max, map, option_map, ◌⊎◌, true, false, if◌then◌else◌, List, Option, None, Some, [], ◌∷◌, ◌++◌, flat_map}
 use Rattle.sh_tree.specs.declared.tree.ClauseEnd.{ClauseEnd}
 use Rattle.sh_tree.specs.declared.tree.ClauseEnd.TheVariants as clause
 use Rattle.sh_tree.specs.standard.program.Syntax as p
@@ -40,6 +40,11 @@ unfoldable pub HasCount : ℕ → Facts → Type 0
 HasCount n NotReached = ⊥
 HasCount n (Known v f a) = n ≡ a
 
+-- the function may be undefined, if this is known
+unfoldable pub MayLack : Text → Facts → Type 0
+MayLack f NotReached = Unit {0}
+MayLack f (Known v g a) = g f ≡ false
+
 -- commands next to each other in a script, as they are entered
 pub record IsPart (t : p.Items) (es : List Entered) : Type 0 where
   pub front : List Entered
@@ -70,6 +75,12 @@ module _ (s : Tally) where
   HasTexts (p.command n offset (p.Simple es) rs) = AreTexts n es
   HasTexts _ = Unit {0}
 
+  -- this function is said to be unsure before the command n
+  pub record IsUnsure (n : ℕ) (f : Text) : Type 0 where
+    pub index : ℕ
+    pub place : number_of names f ≡ Some index
+    pub told : get_or s.unsure.now n None ≡ Some index
+
   -- The numbers are the counts of a certificate that keeps all rules of the script. By it a run
   -- comes to each place at which a count is claimed
   pub record Keeps (t : p.Items) (u : ℕ → ℕ) : Type 0 where
@@ -83,6 +94,8 @@ module _ (s : Tally) where
     pub claims : Certificate
     pub rules : flat_map (broken known claims) (script_bounds t) ≡ []
     pub counts : (slot : Slot) (i a : ℕ) → index_of names slot ≡ Some i → claimed s.places i ≡ Some a → HasCount (u i) (facts (claims.claim slot))
+    -- a function that is unsure before a command may be undefined there
+    pub unsure : (n : ℕ) (f : Text) → IsUnsure n f → MayLack f (facts (claims.claim (Before n)))
 
   abbrev pub Sight : Seen → Views → Type 0
   Sight q known = See names q known
@@ -201,10 +214,11 @@ module _ (s : Tally) where
     pub count : ℕ
     pub counts : claimed s.places index ≡ Some count
 
-  -- what is added for the count after a call of this function
-  abbrev pub AddsReturn : Count → End → Text → Views → Equations → Equations → Type 0
-  AddsReturn place end name known old new =
-      (u : ℕ → ℕ) → (IsReached end name → AreBounds s.places u place (Raise 0) known) → Tallies s.places u old new
+  -- what is added for the count after a call of this function by the command n, if it may return, or
+  -- may be undefined, so that a utility runs
+  abbrev pub AddsReturn : ℕ → Count → End → Text → Views → Equations → Equations → Type 0
+  AddsReturn n place end name known old new =
+      (u : ℕ → ℕ) → (IsReached end name ⊎ IsUnsure n name → AreBounds s.places u place (Raise 0) known) → Tallies s.places u old new
 
   -- what is added for the branches of the command n
   abbrev pub AddsBranches : entries.Around → ℕ → p.Branches → Views → Equations → Equations → Type 0

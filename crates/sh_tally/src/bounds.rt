@@ -1,6 +1,6 @@
 //! Equations between the counts at places of a script (XCU 2.5.1).
 
-ghost use Rattle.std.specs.Prelude.{◌≡◌, ℕ, Some, IfOk, IfSome};
+ghost use Rattle.std.specs.Prelude.{◌≡◌, ℕ, true, get_or, None, Some, IfOk, IfSome};
 ghost use Rattle.sh_domain.specs.Names.{number_of};
 ghost use Rattle.sh_domain.specs.Views.{Entry, at};
 ghost use Rattle.sh_tally.specs.Tallies.{AreBounds, Bounds, Tallies};
@@ -18,6 +18,9 @@ pub struct Tally<'a> {
     pub script: &'a [u8],
     pub table: &'a CallTable<'a>,
     pub places: Places<'a>,
+    /// A function that may be undefined before the command of each number, if there is one that it
+    /// calls.
+    pub unsure: &'a [Option<u16>],
 }
 
 impl Tally<'_> {
@@ -116,8 +119,18 @@ impl Tally<'_> {
         }
     }
 
+    // Whether this function may be undefined before the command of a number.
+    fn is_unsure(&self, number: u32, function: u16) -> bool
+        ensures { result ≡ true → get_or self.now.unsure.now number None ≡ Some function }
+    {
+        match self.unsure.get(number as usize) {
+            Some(unsure) => *unsure == Some(function),
+            None => false,
+        }
+    }
+
     /// Adds that the count after a call is at most what is known before it, if a run comes to this
-    /// end of the function.
+    /// end of the function, or a utility may run in place of it.
     ///
     /// # Errors
     ///
@@ -125,16 +138,20 @@ impl Tally<'_> {
     pub fn returned(
         &self,
         equations: &mut Equations,
+        number: u32,
         place: Count,
         end: End,
         name: &[u8],
         known: Views,
     ) -> Result<(), AllocError>
-        ensures { IfOk result (λ unit. AddsReturn self.now place end name.now known equations.old equations.new) }
+        ensures { IfOk result (λ unit. AddsReturn self.now number place end name.now known equations.old equations.new) }
     {
         let Some(function) = self.function(name) else {
             return Ok(());
         };
+        if self.is_unsure(number, function) {
+            return self.bound(equations, place, known, Change::NONE);
+        }
         match self.places.args(end.of(function)) {
             Some(_) => self.bound(equations, place, known, Change::NONE),
             None => Ok(()),

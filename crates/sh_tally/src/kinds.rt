@@ -6,10 +6,10 @@ ghost use Rattle.sh_tree.specs.standard.program.Trees as trees;
 ghost use Rattle.sh_rules.specs.Walks as walks;
 ghost use Rattle.sh_tree.specs.declared.tree.Branch.{out-Branch};
 ghost use Rattle.sh_tree.specs.declared.tree.Clause.{out-Clause};
-ghost use Rattle.sh_tree.specs.Lists.{branches_from, clauses_from, otherwise_from};
+ghost use Rattle.sh_tree.specs.Lists.{branches_from, clauses_from, otherwise_from, words_from};
 ghost use Rattle.sh_domain.specs.Entries as entries;
 ghost use Rattle.sh_domain.specs.Views.{Both, Seen, if_nonzero};
-ghost use Rattle.sh_tally.specs.Walks.{AddsBranch, AddsBranches, AddsClause, AddsClauses, AddsKind, AddsOtherwise, AddsUnmatched, Sight, SightAfter, falling};
+ghost use Rattle.sh_tally.specs.Walks.{AddsBranch, AddsBranches, AddsClause, AddsClauses, AddsFrom, AddsKind, AddsOtherwise, AddsUnmatched, Sight, SightAfter, falling};
 
 use crate::bounds::Tally;
 use crate::places::Part;
@@ -17,7 +17,7 @@ use crate::views::{After, Views};
 use sh_compounds::matches_always;
 use sh_counts::{Change, Equations};
 use sh_rules::{Around, alone};
-use sh_tree::{Branch, Clause, ClauseEnd, Kind, Script};
+use sh_tree::{Branch, Clause, ClauseEnd, Kind, Script, Word};
 use std::alloc::AllocError;
 
 impl Tally<'_> {
@@ -187,8 +187,24 @@ impl Tally<'_> {
         self.otherwise(equations, around, number, left, otherwise)
     }
 
-    // Goes over a clause of `case`, if this is known where its list is entered. Returns what is
-    // known where it goes on with the next list. It adds nothing for the commands in its patterns.
+    // Goes over the patterns of a clause. Each is expanded after the word by itself.
+    #[cycle(tally)]
+    fn patterns(
+        &self,
+        equations: &mut Equations,
+        known: Views,
+        patterns: &[Word],
+    ) -> Result<(), AllocError>
+        ensures { IfOk result (λ unit. AddsFrom self.now (λ q. entries.patterns_entered q (words_from self.now.script.now patterns.now)) known equations.old equations.new) }
+    {
+        for pattern in patterns {
+            self.word(equations, known, pattern)?;
+        }
+        Ok(())
+    }
+
+    // Goes over the list of a clause of `case`, if this is known at its entry. Returns what is known
+    // where it goes on with the next list.
     #[cycle(tally)]
     fn clause(
         &self,
@@ -225,6 +241,7 @@ impl Tally<'_> {
     {
         let mut left = After::both(Views::NONE);
         for clause in clauses {
+            self.patterns(equations, known, clause.patterns.as_slice())?;
             let fallen = left.in_any_case(&self.places);
             let both = known.and(&self.places, fallen);
             left = self.clause(equations, around, number, both, clause)?;

@@ -173,7 +173,8 @@ impl Tally<'_> {
         }
     }
 
-    // A call leaves the caller its parameters, if the function returns, or a redirection fails.
+    // A call leaves the caller its parameters, if the function returns, if a utility may run in place
+    // of it, or if a redirection fails.
     fn call(
         &self,
         equations: &mut Equations,
@@ -187,14 +188,10 @@ impl Tally<'_> {
     {
         let change = words_of(elements, 0, self.script);
         self.bound_function(equations, End::Entered, name, left, change)?;
-        self.returned(equations, Part::Zero.of(number), End::Zero, name, left)?;
-        self.returned(
-            equations,
-            Part::Nonzero.of(number),
-            End::Nonzero,
-            name,
-            left,
-        )?;
+        let zero = Part::Zero.of(number);
+        self.returned(equations, number, zero, End::Zero, name, left)?;
+        let nonzero = Part::Nonzero.of(number);
+        self.returned(equations, number, nonzero, End::Nonzero, name, left)?;
         self.failed(equations, number, elements, left)?;
         Ok(())
     }

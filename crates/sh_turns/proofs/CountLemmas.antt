@@ -1,5 +1,5 @@
 -- Counts that are solved apart stay above those of each certificate that keeps the rules.
-use Rattle.std.proofs.Common.{◌≡◌, ℕ, zero, suc, ◌+◌, ◌*◌, ◌<◌, ◌≤◌, min, Bool, true, false, Option, Some, None, option_map, List, [], ◌∷◌, ◌++◌, length, flat_map, get_or, is_some, refl, sym, ap, ap₂, ◌∙◌, subst, arith, rules, true≢false}
+use Rattle.std.proofs.Common.{◌≡◌, ℕ, zero, suc, ◌+◌, ◌-◌, ◌*◌, ◌<◌, ◌≤◌, min, not, Bool, true, false, Option, Some, None, option_map, List, [], ◌∷◌, ◌++◌, length, flat_map, get_or, is_some, refl, sym, ap, ap₂, ◌∙◌, subst, arith, rules, true≢false}
 use Rattle.std.specs.Prelude.{IfSome, nat_lt, unwrap_or, option_and_then}
 use Rattle.std.specs.List.{list_all}
 use Rattle.std.proofs.lemmas.Bool.{and_parts}
@@ -27,7 +27,7 @@ use Rattle.sh_domain.specs.Sheets.{Sheet, claim_at}
 use Rattle.sh_domain.specs.Views as views
 use Rattle.sh_domain.specs.Views.{Slot}
 use Rattle.sh_domain.proofs.EachLemmas.{each_passes, each_weaker}
-use Rattle.sh_domain.proofs.KnowledgeLemmas.{has_number, stands_there}
+use Rattle.sh_domain.proofs.KnowledgeLemmas.{has_number, one_number, stands_there}
 use Rattle.sh_domain.proofs.OrderLemmas.{among_all, known_parts, known_within, nowhere_known}
 use Rattle.sh_gains.proofs.TextLemmas.{has_texts, own_texts, table_texts}
 use Rattle.sh_rules.proofs.PrefixLemmas.{table_defines}
@@ -38,12 +38,12 @@ use Rattle.sh_tally.specs.declared.places.End.TheVariants as end
 use Rattle.sh_tally.specs.Counts.{HasAtMost}
 use Rattle.sh_tally.specs.Views.{end_place, function_index, index_of, part_place}
 use Rattle.sh_tally.specs.Walks as tally
-use Rattle.sh_tally.specs.Walks.{AreOver, HasCount, HasTexts}
+use Rattle.sh_tally.specs.Walks.{AreOver, HasCount, HasTexts, MayLack}
 use Rattle.sh_drafts.specs.declared.place.Part.{Part}
 use Rattle.sh_drafts.specs.declared.place.Part.TheVariants as part
 use Rattle.sh_drafts.specs.declared.place.Place.{Place}
 use Rattle.sh_drafts.specs.declared.subject.Subject.{Subject}
-use Rattle.sh_turns.specs.Counts.{AreClaimed, AreOverAll, args_at, args_of, count_place, index_by, part_by, ranked_place}
+use Rattle.sh_turns.specs.Counts.{AreClaimed, AreOverAll, AreUnsure, IsUnsure, args_at, args_of, count_place, index_by, may_lack, part_by, ranked_place}
 use Rattle.sh_drafts.specs.Facts as number
 use Rattle.sh_drafts.specs.Kept.{IsNamed, fact_of}
 use Rattle.sh_drafts.specs.Numbers.{by_name, named}
@@ -164,6 +164,33 @@ within_args names c q f a w e = go (kept_at c q) f w e
     go (Some (value_kind.Known v g b)) NotReached w e = absurd (nowhere_known _ _ _ w)
     go (Some (value_kind.Known v g b)) (Known x y d) w e = let l = (known_parts _ _ _ _ d b w).args in let same : b ≡ a = ap (λ (o : Option ℕ). unwrap_or o 0) e in let few : d ≤ a = omega (arith, l, same) in few
 
+-- what is within a claim lacks a function that the claim lacks
+within_lacks : (names : List Text) (c : kept.Certificate) (q : Place) (f : Facts) (x : Text) (g : value.Facts) → IsWithin f (named names (claims c q)) → kept_at c q ≡ Some g → may_lack names c x g ≡ true → MayLack x f
+unfolding claims named by_name fact_of may_lack MayLack
+within_lacks names c q f x g w e lacks = go g f (subst (λ o. IsWithin f (named names (option_map (fact_of c.rows.rows) o))) e w) lacks
+  where
+    among : (a b : Bool) → (a ≡ true → b ≡ true) → not b ≡ true → a ≡ false
+    among false b h none = refl
+    among true b h none = absurd (true≢false (sym none ∙ ap not (h refl)))
+
+    go : (g : value.Facts) (f : Facts) → IsWithin f (named names (option_map (fact_of c.rows.rows) (Some g))) → may_lack names c x g ≡ true → MayLack x f
+    go value_kind.NotReached f w lacks = absurd (true≢false (sym lacks))
+    go (value_kind.Known v k b) NotReached w lacks = tt
+    go (value_kind.Known v k b) (Known y z d) w lacks = among _ _ ((known_parts _ _ _ _ d b w).functions x) lacks
+
+-- the function of an index has one name
+pub unsure_there : (s : Subject) (c : kept.Certificate) (n i : ℕ) (x : Text) (claim : value.Facts) (q : Place) → number_of s.table.now.functions.names x ≡ Some i → q ≡ at part.Before (n - 1)
+    → Some claim ≡ kept_at c q → may_lack s.names.now c x claim ≡ true → IsUnsure s c n i
+unsure_there s c n i x claim q named place there lacks = record {
+  claim = claim;
+  there = ap (kept_at c) (sym place) ∙ sym there;
+  lacks = λ f is. ap (λ (y : Text). may_lack s.names.now c y claim) (one_number s.table.now.functions.names i f x is named) ∙ lacks;
+}
+
+-- one more command calls a function
+pub unsure_more : (s : Subject) (c : kept.Certificate) (us new : List (Option ℕ)) (o : Option ℕ) (n : ℕ) → length us ≡ n → new ≡ us ++ o ∷ [] → AreUnsure s c us → IfSome o (IsUnsure s c n) → AreUnsure s c new
+unsure_more s c us new o n sized pushed are one = subst (AreUnsure s c) (sym pushed) (more (IsUnsure s c) us o are (subst (λ k. IfSome o (IsUnsure s c k)) (sym sized) one))
+
 args_few : (names : List Text) (c : kept.Certificate) (q : Place) (a : ℕ) → ((f : value.Facts) → kept_at c q ≡ Some f → IsNumbered (length names) (fact_of c.rows.rows f)) → args_at c q ≡ Some a → a ≤ 65535
 unfolding fact_of args_of IsNumbered
 args_few names c q a fine e = go (kept_at c q) refl e
@@ -202,17 +229,29 @@ module _ (s : Subject) (c : kept.Certificate) (n : ℕ) (ready : IsReady s c n) 
   abbrev u : ℕ → ℕ
   u i = count_in (get_or cs i None) (there i)
 
-  -- if a run comes there by the certificate, one comes by the other certificate
-  reached : (slot : Slot) (q : Place) (a : ℕ) → place_of functions slot ≡ Some q → args_at c q ≡ Some a → HasAtMost a (facts (claim_there other (Some q)))
-  reached slot q a place args =
+  -- the other certificate claims no more there
+  within_there : (slot : Slot) (q : Place) → place_of functions slot ≡ Some q → IsWithin (facts (claim_there other (Some q))) (named s.names.now (claims c q))
+  within_there slot q place =
       let own = claimed s.names.now (names_numbered s c n ready) ready.loops ready.functions c ready.working q in
       let both : IsWithin (facts (claim_there other (Some q))) (facts (claim_there (sheet_by s.names.now c) (Some q))) =
       subst (λ o. IsWithin (facts (claim_there other o)) (facts (claim_there (sheet_by s.names.now c) o))) place
       (subst (λ x. IsWithin (facts x) (facts (claim_there (sheet_by s.names.now c) (place_of functions slot)))) (placed functions other slot)
       (subst (λ x. IsWithin (facts (claim_at functions other slot)) (facts x)) (placed functions (sheet_by s.names.now c) slot) ((ready.over other keeps).claimed slot))) in
-      within_args s.names.now c q (facts (claim_there other (Some q))) a (subst (IsWithin (facts (claim_there other (Some q)))) own both) args
+      subst (IsWithin (facts (claim_there other (Some q)))) own both
 
-  module _ (y : Tally) (script : y.script.now ≡ s.script.now) (table : y.table.now ≡ table_of s.script.now s.tree.now) (counts : y.places.counts.now ≡ cs) where
+  -- if a run comes there by the certificate, one comes by the other certificate
+  reached : (slot : Slot) (q : Place) (a : ℕ) → place_of functions slot ≡ Some q → args_at c q ≡ Some a → HasAtMost a (facts (claim_there other (Some q)))
+  reached slot q a place args = within_args s.names.now c q (facts (claim_there other (Some q))) a (within_there slot q place) args
+
+  -- if a function may be undefined before a command by the certificate, it may be by the other one
+  lacking : (k i : ℕ) (f : Text) → IsUnsure s c k i → number_of s.table.now.functions.names f ≡ Some i → MayLack f (facts ((claims_in s.script.now s.tree.now other).claim (views.Before k)))
+  unfolding place_of
+  lacking k i f is named =
+      let q : Place = at part.Before (k - 1) in
+      subst (λ x. MayLack f (facts x)) (sym (placed functions other (views.Before k)))
+      (within_lacks s.names.now c q (facts (claim_there other (Some q))) f is.claim (within_there (views.Before k) q refl) is.there (is.lacks f named))
+
+  module _ (us : List (Option ℕ)) (unsure : AreUnsure s c us) (y : Tally) (script : y.script.now ≡ s.script.now) (table : y.table.now ≡ table_of s.script.now s.tree.now) (counts : y.places.counts.now ≡ cs) (flags : y.unsure.now ≡ us) where
     of_count : (slot : Slot) (i : ℕ) → index_of y.table.now.functions.names slot ≡ Some i → place_of functions slot ≡ Some (count_place i)
     of_count slot i e =
         slot_place functions slot
@@ -243,6 +282,7 @@ module _ (s : Subject) (c : kept.Certificate) (n : ℕ) (ready : IsReady s c n) 
           claims = claims_in b t other;
           rules = subst (λ ks. flat_map (broken (start_of s) (claims_in b t other)) ks ≡ []) (ap (λ x. asked_bounds x (script_bounds (script_of b t))) free ∙ all_asked (script_bounds (script_of b t))) keeps.rules;
           counts = has_count;
+          unsure = λ k f is. lacking k is.index f (unsure k is.index (ap (λ (l : List (Option ℕ)). get_or l k None) (sym flags) ∙ is.told)) (ap (λ (x : Table). number_of x.functions.names f) (s.listed ∙ sym table) ∙ is.place);
         }
 
     at_most : (counts : List ℕ) → AreOver y (script_of s.script.now s.tree.now) counts → (i a : ℕ) → get_or cs i None ≡ Some a → (slot : Slot) → place_of functions slot ≡ Some (count_place i) → HasAtMost (worth counts i) (there i)
@@ -250,6 +290,6 @@ module _ (s : Subject) (c : kept.Certificate) (n : ℕ) (ready : IsReady s c n) 
         count_most (get_or cs i None) (there i) a (worth solved i) here (reached slot (count_place i) a place (are i a here)) (over u keeps_tally i a (ap (λ (l : List (Option ℕ)). get_or l i None) counts ∙ here))
 
 -- so no certificate that keeps the rules has more parameters at a place than what is solved
-pub over_all : (s : Subject) (c : kept.Certificate) (n : ℕ) → IsReady s c n → s.stated ≡ false → (cs : List (Option ℕ)) → AreClaimed c cs → (y : Tally) → y.script.now ≡ s.script.now
-    → y.table.now ≡ table_of s.script.now s.tree.now → y.places.counts.now ≡ cs → (counts : List ℕ) → AreOver y (script_of s.script.now s.tree.now) counts → AreOverAll s cs counts
-over_all s c n ready free cs are y script table counts solved over i a here other keeps slot place = at_most s c n ready free cs are other keeps y script table counts solved over i a here slot place
+pub over_all : (s : Subject) (c : kept.Certificate) (n : ℕ) → IsReady s c n → s.stated ≡ false → (cs us : List (Option ℕ)) → AreClaimed c cs → AreUnsure s c us → (y : Tally) → y.script.now ≡ s.script.now
+    → y.table.now ≡ table_of s.script.now s.tree.now → y.places.counts.now ≡ cs → y.unsure.now ≡ us → (counts : List ℕ) → AreOver y (script_of s.script.now s.tree.now) counts → AreOverAll s cs counts
+over_all s c n ready free cs us are unsure y script table counts flags solved over i a here other keeps slot place = at_most s c n ready free cs are other keeps us unsure y script table counts flags solved over i a here slot place

@@ -1,11 +1,15 @@
 -- The counts of positional parameters that a certificate claims, in the order of the tally: seven
 -- for each number.
 -- POSIX.1-2024, XCU 2.5.1 (positional parameters).
-use Rattle.std.specs.Prelude.{◌≡◌, ℕ, zero, suc, ◌-◌, ◌/◌, ◌%◌, List, Option, Some, None, get_or, option_and_then}
+use Rattle.std.specs.Prelude.{◌≡◌, ℕ, zero, suc, ◌-◌, ◌/◌, ◌%◌, Bool, true, false, not, List, Option, Some, None, get_or, option_and_then}
+use Rattle.sh_tree.specs.standard.program.Syntax.{Text}
 use Rattle.sh_domain.specs.declared.certificate.Certificate as kept
 use Rattle.sh_domain.specs.declared.certificate.Facts as value
 use Rattle.sh_domain.specs.declared.certificate.Facts.TheVariants as value_kind
 use Rattle.sh_domain.specs.Facts.{facts}
+use Rattle.sh_domain.specs.KeptRows.{holds_at}
+use Rattle.sh_domain.specs.Knowledge.{at_number}
+use Rattle.sh_domain.specs.Names.{number_of}
 use Rattle.sh_domain.specs.Admitted.{functions_in}
 use Rattle.sh_domain.specs.Sheets.{Sheet}
 use Rattle.sh_domain.specs.Views.{Slot}
@@ -64,3 +68,17 @@ HasAtMostThere s n p = (other : Sheet) → Keeps s other → (slot : Slot) → p
 -- nor at a place of which a count is claimed
 abbrev pub AreOverAll : Subject → List (Option ℕ) → List ℕ → Type 0
 AreOverAll s claimed counts = (i a : ℕ) → get_or claimed i None ≡ Some a → HasAtMostThere s (worth counts i) (count_place i)
+
+-- whether a function may be undefined, if this is claimed of these names
+unfoldable pub may_lack : List Text → kept.Certificate → Text → value.Facts → Bool
+may_lack names c f value_kind.NotReached = false
+may_lack names c f (value_kind.Known vars functions args) = not (at_number (holds_at c.rows.rows functions.index) (number_of names f))
+
+-- the function of this index may be undefined before the command n, as is claimed there
+pub record IsUnsure (s : Subject) (c : kept.Certificate) (n i : ℕ) : Type 0 where
+  pub claim : value.Facts
+  pub there : kept_at c (at Before (n - 1)) ≡ Some claim
+  pub lacks : (f : Text) → number_of s.table.now.functions.names f ≡ Some i → may_lack s.names.now c f claim ≡ true
+
+abbrev pub AreUnsure : Subject → kept.Certificate → List (Option ℕ) → Type 0
+AreUnsure s c unsure = (n i : ℕ) → get_or unsure n None ≡ Some i → IsUnsure s c n i

@@ -7,11 +7,12 @@ ghost use Rattle.sh_domain.specs.Reading.{claim_fits};
 ghost use Rattle.sh_counts.specs.Equations.{worth};
 ghost use Rattle.sh_tally.specs.Counts.{HasAtMost};
 ghost use Rattle.sh_turns.specs.Counts as spec;
-ghost use Rattle.sh_turns.specs.Counts.{AreClaimed, AreOverAll, HasAtMostThere, count_place};
+ghost use Rattle.sh_turns.specs.Counts.{AreClaimed, AreOverAll, AreUnsure, HasAtMostThere, count_place};
 ghost use Rattle.sh_drafts.specs.Kept.{IsNamed, sight_facts};
 ghost use Rattle.sh_drafts.specs.Numbers.{by_name};
 ghost use Rattle.sh_drafts.specs.Ready.{IsReady, IsSwept};
 
+use crate::unsure::unsure_of;
 use sh_domain::{Certificate, Facts, Names, NumberSet};
 use sh_drafts::kept::facts_at;
 use sh_drafts::lower::lower;
@@ -203,16 +204,19 @@ fn solved(
     subject: &Subject<'_>,
     certificate: &Certificate,
     claimed: &[Option<u16>],
+    unsure: &[Option<u16>],
 ) -> Result<Vec<u16>, AllocError>
     requires ready { (probed : ℕ) × IsReady subject.now certificate.now probed }
     requires free { subject.now.stated ≡ false }
     requires claimed { AreClaimed certificate.now claimed.now }
+    requires unsure { AreUnsure subject.now certificate.now unsure.now }
     ensures { IfOk result (λ counts. AreOverAll subject.now claimed.now counts.items) }
 {
     let tally = Tally {
         script: subject.script,
         table: subject.table,
         places: Places { counts: claimed },
+        unsure,
     };
     tally.lowered(alloc, subject.tree)
 }
@@ -231,6 +235,13 @@ pub fn solve_counts(subject: &Subject<'_>, draft: &mut Draft) -> Result<(), Allo
         return Ok(());
     }
     let claimed = counts_of(draft.alloc, &draft.certificate)?;
-    let counts = solved(draft.alloc, subject, &draft.certificate, claimed.as_slice())?;
+    let unsure = unsure_of(draft.alloc, subject, &draft.certificate)?;
+    let counts = solved(
+        draft.alloc,
+        subject,
+        &draft.certificate,
+        claimed.as_slice(),
+        unsure.as_slice(),
+    )?;
     lower_all(subject, draft, claimed.as_slice(), counts.as_slice())
 }

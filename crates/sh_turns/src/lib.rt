@@ -4,6 +4,7 @@
 mod asked;
 mod counts;
 mod turns;
+mod unsure;
 
 pub use counts::solve_counts;
 pub use turns::turn;

@@ -3,7 +3,7 @@ use Rattle.sh_tree.specs.Lists.{elements_from, operands_from, parts_from, redire
 use Rattle.sh_rules.specs.Walks as walks
 use Rattle.sh_tally.specs.Walks.{PassesValues, PassesWords}
 use Rattle.sh_tally.proofs.IterationLemmas.{ListedPassed}
-use Rattle.sh_tally.proofs.KindLemmas.{BranchesLeft, ClausesLeft}
+use Rattle.sh_tally.proofs.KindLemmas.{BranchesLeft, ClausesLeft, PatternsLeft}
 use Rattle.sh_tally.proofs.RedirectLemmas.{RedirectsPassed}
 use Rattle.sh_tally.proofs.WalkLemmas.{ItemsLeft, LinksLeft, PartsLeft}
 use Rattle.sh_tally.proofs.WordLemmas.{OperandsPassed, PartsPassed}
@@ -41,3 +41,6 @@ invariant-words-loop-word l = record { left : ListedPassed l.self (words_from l.
 
 abbrev pub invariant-redirects-loop-redirect : goal.invariant-redirects-loop-redirect
 invariant-redirects-loop-redirect l = record { left : RedirectsPassed l.self (redirects_from l.self.script.now l.redirects) (redirects_from l.self.script.now (drop l.redirect-index l.redirects)) l.fn.known l.left l.initial.equations l.equations }
+
+abbrev pub invariant-patterns-loop-pattern : goal.invariant-patterns-loop-pattern
+invariant-patterns-loop-pattern l = record { left : PatternsLeft l.self l.known l.patterns l.initial.equations (drop l.pattern-index l.patterns) l.equations }
