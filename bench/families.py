@@ -96,6 +96,22 @@ def shift_beside(line):
     return made
 
 
+def shift_floors(size):
+    """Each branch lowers the parameters to fewer than the one before."""
+    line = 'a && { shift; : "${60000?}"; continue; }'
+    count = count_of(size - 30, line, size)
+    step = max(1, 60000 // count)
+    return text_of(["while :; do", *(f'a && {{ shift; : "${{{65000 - number * step}?}}"; continue; }}' for number in range(count)), "b; done"])
+
+
+def shift_stages(size):
+    """Each function has a loop that is reached once the one before is left."""
+    loop = "( while :; do shift; done )"
+    count = count_of(size, f'f1000() {{ f1000 "$@"; {loop}; }}\nb && f1000 "$@"')
+    lines = [f'f{number}() {{ f{number - 1} "$@"; {loop}; }}' for number in range(1, count)]
+    return text_of([*lines, "f0() { a || {", *(f'b && f{number} "$@"' for number in range(1, count)), "}; }", 'f0 "$@"'])
+
+
 def chain(order):
     def made(size):
         count = count_of(size, "f1000() { f1000; }")
@@ -508,6 +524,8 @@ FAMILIES = {
     "shift meets": (shift_meets, ALL_PARAMETERS),
     "shift words in": (shift_substitutions, ALL_PARAMETERS),
     "shift nested": (shift_nested, ALL_PARAMETERS),
+    "shift floors": (shift_floors, ALL_PARAMETERS),
+    "shift stages": (shift_stages, ALL_PARAMETERS),
     **{f"shift and {name}": (shift_beside(line), ALL_PARAMETERS) for name, line in BESIDE.items()},
     **{f"shift round {name}": (of(start, each('echo "$vN"\n'), end), ALL_PARAMETERS) for name, (start, end) in ROUND.items()},
     "chain": (chain("in order"), ()),

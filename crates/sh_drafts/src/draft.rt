@@ -24,7 +24,11 @@ pub struct Draft {
     pub is_count: bool,
     /// If counts alone fall until there are more looks than this, they are solved apart: a hint.
     pub tires: u64,
-    /// How often the flow rules of a command were gone through so far: a hint.
+    /// A sweep leaves a loop after more rounds than these in which counts alone fell: a hint.
+    pub rounds: u32,
+    /// Whether it has left one: a hint.
+    pub has_left: bool,
+    /// How often the flow rules of a command or a link were gone through so far: a hint.
     pub looks: u64,
     /// After more looks than this, what is known is carried over utilities: a hint.
     pub patience: u64,
@@ -39,8 +43,17 @@ pub struct Draft {
 // How often counts fall for each command until they are solved apart.
 const FALLS: u64 = 4;
 
-// How many looks there are for each command until a search goes on in another way.
+// How many looks there are for each command until sweeps carry what is known. A link is a look too.
 const LOOKS: u64 = 8;
+
+// How many looks there are for each command until counts that fall alone are solved apart.
+const LONE_LOOKS: u64 = 2;
+
+// After more rounds than these in which counts alone fell, a sweep leaves a loop at first.
+const ROUNDS: u32 = 2;
+
+// How often that is doubled at most.
+const MOST_DOUBLED: u32 = 20;
 
 // So often more for each of so many commands.
 fn after(so_far: u64, commands: usize, times: u64) -> u64 {
@@ -54,10 +67,22 @@ pub fn rest_after(counted: u64, commands: usize) -> u64 {
     after(counted, commands, FALLS)
 }
 
-/// How many looks there may be at so many commands until a search goes on in another way, if there
-/// were so many so far: a hint.
+/// After more rounds than these in which counts alone fell, a sweep leaves a loop, if it was begun
+/// anew so often: a hint. So a loop whose counts have no equations is left a few times alone.
+pub fn rounds_after(begun: u32) -> u32 {
+    ROUNDS << begun.min(MOST_DOUBLED)
+}
+
+/// How many looks there may be at so many commands until sweeps carry what is known, if there were
+/// so many so far: a hint.
 pub fn patience_after(looks: u64, commands: usize) -> u64 {
     after(looks, commands, LOOKS)
+}
+
+/// How many looks there may be at so many commands until counts that fall alone are solved apart,
+/// if there were so many so far: a hint.
+pub fn tires_after(looks: u64, commands: usize) -> u64 {
+    after(looks, commands, LONE_LOOKS)
 }
 
 impl Draft {
@@ -65,6 +90,16 @@ impl Draft {
     /// hint.
     pub fn is_tired(&self) -> bool {
         self.counted > self.rest || (self.is_count && self.looks > self.tires)
+    }
+
+    /// Whether counts are to be solved apart after a sweep: a hint.
+    pub fn is_unsolved(&self) -> bool {
+        self.has_left || self.is_tired()
+    }
+
+    /// How often something fell that was no count of parameters: a hint.
+    pub fn falls_of_names(&self) -> u64 {
+        self.lowered.saturating_sub(self.counted)
     }
 
     /// Whether sweeps carry what is known over utilities that leave it, and lower nothing there: a

@@ -1,7 +1,7 @@
 //! What waits after something was lowered: hints.
 ghost use Rattle.std.specs.Prelude.{◌≡◌};
 
-use crate::draft::{Draft, patience_after};
+use crate::draft::{Draft, tires_after};
 use crate::kept::{drops_of, facts_at};
 use crate::place::{Part, Place};
 use crate::subject::Subject;
@@ -70,7 +70,7 @@ pub fn note_place(
     draft.is_count = now != before && rows_of(now) == rows_of(before);
     draft.counted = draft.counted.saturating_add(u64::from(draft.is_count));
     if !draft.is_count {
-        draft.tires = patience_after(draft.looks, subject.commands.len());
+        draft.tires = tires_after(draft.looks, subject.commands.len());
     }
     wake_place(subject, &mut draft.waiting, place)
 }

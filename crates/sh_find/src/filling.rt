@@ -52,6 +52,8 @@ fn filled(alloc: Global, subject: &Subject<'_>) -> Result<Certificate, AllocErro
         rest: 0,
         is_count: false,
         tires: u64::MAX,
+        rounds: u32::MAX,
+        has_left: false,
         looks: 0,
         patience: u64::MAX,
         again: 0,

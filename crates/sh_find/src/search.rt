@@ -15,7 +15,10 @@ ghost use Rattle.sh_drafts.specs.Working.{IsWorking};
 
 use indexmap::IndexMap;
 use sh_domain::{Certificate, Compact, Facts, Names, Policy, Rows};
-use sh_drafts::{Draft, Subject, Target, Writable, patience_after, rest_after, unreached};
+use sh_drafts::{
+    Draft, Subject, Target, Writable, patience_after, rest_after, rounds_after, tires_after,
+    unreached,
+};
 use sh_passes::{sweep_by_rounds, sweep_round, sweep_waiting};
 use sh_rows::{BitRow, Row};
 use sh_table::CallTable;
@@ -35,15 +38,15 @@ pub enum Way {
     Once,
 }
 
-// Solves the counts apart, if they fell often.
+// Solves the counts apart, if they fell often, or a loop was left while they fell.
 fn rest_counts(subject: &Subject<'_>, draft: &mut Draft) -> Result<(), AllocError>
     requires { IsReady subject.now draft.old.certificate draft.old.probe.count }
     ensures { IfOk result (λ unit. IsSwept subject.now draft.old.certificate draft.new.certificate draft.new.probe.count) }
 {
-    if draft.is_tired() {
+    if draft.is_unsolved() {
         solve_counts(subject, draft)?;
         draft.rest = rest_after(draft.counted, subject.commands.len());
-        draft.tires = patience_after(draft.looks, subject.commands.len());
+        draft.tires = tires_after(draft.looks, subject.commands.len());
     }
     Ok(())
 }
@@ -54,11 +57,13 @@ fn sweep_by_need(subject: &Subject<'_>, draft: &mut Draft) -> Result<(), AllocEr
     requires { IsReady subject.now draft.old.certificate draft.old.probe.count }
     ensures { IfOk result (λ unit. IsSwept subject.now draft.old.certificate draft.new.certificate draft.new.probe.count) }
 {
-    for _time in 0..u32::MAX {
+    for time in 0..u32::MAX {
         let before = draft.lowered;
+        draft.rounds = rounds_after(time);
+        draft.has_left = false;
         draft.patience = patience_after(draft.looks, subject.commands.len());
         sweep_waiting(subject, draft)?;
-        if draft.lowered == before || !(draft.is_tired() || draft.carries()) {
+        if draft.lowered == before || !(draft.is_unsolved() || draft.carries()) {
             return Ok(());
         }
         rest_counts(subject, draft)?;
@@ -132,7 +137,9 @@ fn settled(alloc: Global, subject: &Subject<'_>, way: Way) -> Result<(Certificat
         counted: 0,
         rest: rest_after(0, subject.commands.len()),
         is_count: false,
-        tires: patience_after(0, subject.commands.len()),
+        tires: tires_after(0, subject.commands.len()),
+        rounds: u32::MAX,
+        has_left: false,
         looks: 0,
         patience: u64::MAX,
         again: 0,

@@ -24,7 +24,18 @@ fn is_passed_once(draft: &Draft, around: &Around<'_>, number: u32) -> bool {
     matches!(around.loops, Loops::Inside(_, _)) && head_at(draft, number) == Some(Facts::NotReached)
 }
 
-/// Lowers the certificate in a command, and at the turns of a loop, until these no longer fall.
+// One more round if counts alone fell in the last one, which began with so many other falls.
+fn counted_on(draft: &Draft, before: u64, rounds: u32) -> u32 {
+    if draft.falls_of_names() == before {
+        rounds.saturating_add(1)
+    } else {
+        0
+    }
+}
+
+/// Lowers the certificate in a command, and at the turns of a loop, until these no longer fall. If
+/// counts alone fall, it leaves the loop soon. So what comes after it is reached before the counts
+/// of all loops are solved apart.
 ///
 /// # Errors
 ///
@@ -45,11 +56,19 @@ pub fn sweep_rounds(
 {
     let is_once = is_passed_once(&*draft, around, command.number);
     lower_head(subject, draft, by, around, known, command)?;
+    let mut rounds = 0;
     for _round in 0..u32::MAX {
         let head = head_at(&*draft, command.number);
+        let before = draft.falls_of_names();
         sweep_inside(subject, draft, levels, around, command)?;
         lower_head(subject, draft, by, around, known, command)?;
         if head == head_at(&*draft, command.number) {
+            return Ok(());
+        }
+        rounds = counted_on(&*draft, before, rounds);
+        let is_left = rounds > draft.rounds;
+        if is_left {
+            draft.has_left = true;
             return Ok(());
         }
         if is_once || draft.is_tired() {

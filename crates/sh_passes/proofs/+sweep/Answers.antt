@@ -746,6 +746,9 @@ rounds::sweep_rounds-loop-round-preserved = bodies.sweep_rounds-loop-round-prese
 pub rounds::sweep_rounds-returns-then-eq : goal.rounds::sweep_rounds-returns-then-eq
 rounds::sweep_rounds-returns-then-eq = bodies.sweep_rounds-returns-then-eq
 
+pub rounds::sweep_rounds-returns-then-is_left : goal.rounds::sweep_rounds-returns-then-is_left
+rounds::sweep_rounds-returns-then-is_left = bodies.sweep_rounds-returns-then-is_left
+
 pub rounds::sweep_rounds-returns-then-is_once : goal.rounds::sweep_rounds-returns-then-is_once
 rounds::sweep_rounds-returns-then-is_once = bodies.sweep_rounds-returns-then-is_once
 

@@ -51,6 +51,11 @@ sweep_rounds-returns-then-eq t c =
     let s = c.args.subject.now in
     record { swept = swept_more s _ _ _ _ _ c.in_ok-lower_head.ensures.swept (swept_more s _ _ _ _ _ (swept_more s _ _ _ _ _ c.loop-round.invariant.swept c.in_ok-sweep_inside.ensures.swept) c.in_ok-lower_head-2.ensures.swept) }
 
+pub sweep_rounds-returns-then-is_left : goal.rounds::sweep_rounds-returns-then-is_left
+sweep_rounds-returns-then-is_left t c =
+    let s = c.args.subject.now in
+    record { swept = swept_more s _ _ _ _ _ c.in_ok-lower_head.ensures.swept (swept_more s _ _ _ _ _ (swept_more s _ _ _ _ _ c.loop-round.invariant.swept c.in_ok-sweep_inside.ensures.swept) c.in_ok-lower_head-2.ensures.swept) }
+
 pub sweep_rounds-returns-then-is_once : goal.rounds::sweep_rounds-returns-then-is_once
 sweep_rounds-returns-then-is_once t c =
     let s = c.args.subject.now in
