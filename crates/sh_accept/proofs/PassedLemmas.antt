@@ -1,5 +1,5 @@
--- The text of the greatest certificate reads as it, and its compact text as what is filled to it;
--- so if it is accepted these texts pass.
+-- The text of the greatest certificate reads as it, and its compact text as what is filled to it.
+-- So if it is accepted these texts pass, and otherwise they have its findings.
 use Rattle.std.proofs.Common.{◌≡◌, ◌≤◌, ℕ, nat_le, nat_eq, Bool, true, false, ◌&&◌, List, length, Ok, Vec, refl, sym, ◌∙◌, subst, arith, true≢false}
 use Rattle.std.specs.declared.alloc.Global.{Global}
 use Rattle.std.proofs.lemmas.Bool.{and_parts}
@@ -26,14 +26,20 @@ use Rattle.sh_domain.proofs.KnownNameLemmas.{names_suffice}
 use Rattle.sh_domain.proofs.OrderLemmas.{within_test}
 use Rattle.sh_domain.proofs.ReadBackLemmas.{read_back}
 use Rattle.sh_domain.proofs.WritableLemmas.{short}
-use Rattle.sh_answers.specs.declared.verdict.Verdict.TheVariants.{Pass}
+use Rattle.sh_answers.specs.Findings.{AreFindings}
+use Rattle.sh_answers.specs.declared.verdict.Finding.{Finding}
+use Rattle.sh_answers.specs.declared.verdict.Report.{Report}
+use Rattle.sh_answers.specs.declared.verdict.Verdict.TheVariants.{Pass, Fail}
 use Rattle.sh_accept.specs.Accepted.{FitsGiven, Gives, Claims, IsAccepted, IsAcceptedText}
-use Rattle.sh_accept.specs.Answers.{IsBest, IsStart, IsTextOf, Lints, Certifies}
+use Rattle.sh_accept.specs.Answers.{HasFindings, IsBest, IsStart, IsTextOf, Lints, Certifies, places}
+use Rattle.sh_accept.specs.Computed.{IsRead}
 use Rattle.sh_accept.specs.Passed.{LintedIsChecked}
 use Rattle.sh_accept.proofs.CompactLemmas.{and_all, compact_written, turns_fitting}
+use Rattle.sh_accept.proofs.FilledLemmas.{tree_is}
 use Rattle.sh_accept.proofs.GreatestLemmas.{accepted, meets}
 use Rattle.sh_accept.proofs.JoinLemmas.{greatest_filled}
 use Rattle.sh_accept.proofs.OneGreatestLemmas.{as_many}
+use Rattle.sh_accept.proofs.SingleLemmas.{best_read, one}
 
 -- The start
 
@@ -123,5 +129,28 @@ best full b d t c text k a is l =
 shown : (full : Bool) (b : List ℕ) (d : Declared) (v : Vec ℕ Global) → Lints b d (Ok Pass) → Certifies full b d (Ok v) → IsAcceptedText b d v.items
 shown full b d v h k = best full b d k.0.tree k.0.certificate v.items k.0.best (accepted b d k.0.tree k.0.certificate h.0 k.0.best h.1) k.0.spelled k.1
 
+-- along the one tree, and the one greatest certificate of it
+found_there : (b : List ℕ) (d : Declared) (t u : Script) (c e : Sheet) (fs : List Finding) → u ≡ t → e ≡ c → AreFindings b (places b d u e) fs → AreFindings b (places b d t c) fs
+found_there b d t u c e fs p same h = subst (λ x. AreFindings b (places b d t x) fs) same (subst (λ v. AreFindings b (places b d v e) fs) p h)
+
+failed : (full : Bool) (b : List ℕ) (d : Declared) (v : Vec ℕ Global) (r : Report) → Lints b d (Ok (Fail r)) → Certifies full b d (Ok v) → HasFindings b d v.items r.findings.items
+failed full b d v r h k =
+    let t = k.0.tree in
+    let c = k.0.certificate in
+    let best = k.0.best in
+    let names = best.names in
+    let loops = best.greatest.fit.loops in
+    let read : IsRead b d t names loops = record { reading = best.admitted.reading; numbering = best.admitted.numbered.0; are_loops = best.greatest.fit.are_loops } in
+    let tree : h.tree ≡ t = tree_is b d t names loops read h.tree h.best.admitted.reading in
+    let same : h.certificate ≡ c = one b d t names loops read h.certificate c (best_read b d t names loops read h.tree h.certificate h.best) best in
+    record {
+      tree = t;
+      certificate = c;
+      certified = record { names = names; admitted = best.admitted; claims = text_claims b d t c best full v.items k.0.spelled k.1 };
+      rules = best.greatest.rules;
+      some = h.some;
+      found = found_there b d t h.tree c h.certificate r.findings.items tree same h.found;
+    }
+
 pub linted_is_checked : LintedIsChecked
-linted_is_checked = record { best = best; shown = shown }
+linted_is_checked = record { best = best; shown = shown; failed = failed }

@@ -54,8 +54,8 @@ pub fn single()
     ensures { HasOneGreatest }
 {}
 
-/// If a lint passes, a check of the certificate's text that is shown of the script passes. So it is
-/// of the full text and of the compact one.
+/// If a lint passes, a check of the certificate's text that is shown of the script passes. If a lint
+/// has findings, such a check has the same ones. So it is of the full text and of the compact one.
 pub fn passed()
     ensures { LintedIsChecked }
 {}

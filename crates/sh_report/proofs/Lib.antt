@@ -2,3 +2,4 @@ pub mod LintLemmas
 pub mod PrintLemmas
 pub mod RunLemmas
 pub mod PromiseLemmas
+pub mod ReadLemmas

@@ -1,14 +1,14 @@
 //! One run: reads what its action reads, and writes the text of the answer.
 ghost use Rattle.std.specs.Prelude.{◌≡◌, ◌≤◌, ◌⊎◌, ℕ, List, Err, IfOk, IsErr, OnOk, OnErr, IsErrOf, length};
 ghost use Rattle.sh_answers.specs.Ends.{BoreOnly, FailedBetween, HasRoom, RefusedBetween};
-ghost use Rattle.sh_answers.specs.Moves.{BoreAll, Had, TookAtMost, TookWhole};
+ghost use Rattle.sh_answers.specs.Moves.{BoreAll, TookAtMost, TookWhole};
 ghost use Rattle.sh_answers.specs.declared.task.Action.TheVariants as actions;
 ghost use Rattle.sh_answers.specs.Texts.{answer_text, status_of};
 ghost use Rattle.sh_tree.specs.declared.refusal.Refusal.TheVariants as refusals;
 ghost use Rattle.sh_accept.specs.Written.{Tells, shown_status, shown_text};
 ghost use Rattle.sh_report.specs.Promises.{EndsSafe};
 ghost use Rattle.sh_report.specs.Runs as runs;
-ghost use Rattle.sh_report.specs.Runs.{HadText, WritesAnswer, WritesFront};
+ghost use Rattle.sh_report.specs.Runs.{IsRead, IsTextRead, WritesAnswer, WritesFront};
 
 use crate::checks::check;
 use crate::lints::{certificate, lint};
@@ -46,10 +46,9 @@ pub fn run<R: Feed, C: Feed, W: Outlet>(
     requires script_room { HasRoom (R.tally script.old) }
     requires cert_room { HasRoom (C.tally cert.old) }
     requires out_room { HasRoom (W.tally out.old) }
-    ensures text { IfOk result (λ status. (b t : List ℕ) → Had (R.remaining script.old) runs.script_read b → HadText task.now.action (C.remaining cert.old) runs.certificate_read t
-        → WritesAnswer task.now b t (W.contents out.old) (W.contents out.new) status) }
-    ensures headline { IfOk result (λ status. (b t : List ℕ) → Had (R.remaining script.old) runs.script_read b → HadText task.now.action (C.remaining cert.old) runs.certificate_read t
-        → EndsSafe task.now b status) }
+    ensures text { IfOk result (λ status. (b : List ℕ) × (t : List ℕ) × IsRead (R.remaining script.old) runs.script_read b
+        × IsTextRead task.now.action (C.remaining cert.old) runs.certificate_read t × WritesAnswer task.now b t (W.contents out.old) (W.contents out.new) status) }
+    ensures headline { IfOk result (λ status. (b : List ℕ) × IsRead (R.remaining script.old) runs.script_read b × EndsSafe task.now b status) }
     ensures script_whole { OnOk result (TookWhole (R.tally script.old) (R.tally script.new) (R.remaining script.old) (R.remaining script.new) runs.script_read) }
     ensures script_written { IsErrOf result Fault.Write → TookWhole (R.tally script.old) (R.tally script.new) (R.remaining script.old) (R.remaining script.new) runs.script_read }
     ensures script_lost { OnErr result (TookAtMost (R.remaining script.old) (R.remaining script.new) runs.script_read) }
@@ -57,8 +56,8 @@ pub fn run<R: Feed, C: Feed, W: Outlet>(
     ensures cert_whole { OnOk result (task.now.action ≡ actions.Check → TookWhole (C.tally cert.old) (C.tally cert.new) (C.remaining cert.old) (C.remaining cert.new) runs.certificate_read) }
     ensures cert_written { IsErrOf result Fault.Write → task.now.action ≡ actions.Check → TookWhole (C.tally cert.old) (C.tally cert.new) (C.remaining cert.old) (C.remaining cert.new) runs.certificate_read }
     ensures cert_lost { OnErr result (task.now.action ≡ actions.Check → TookAtMost (C.remaining cert.old) (C.remaining cert.new) runs.certificate_read) }
-    ensures front { IsErrOf result Fault.Write → (b t : List ℕ) → Had (R.remaining script.old) runs.script_read b → HadText task.now.action (C.remaining cert.old) runs.certificate_read t
-        → WritesFront task.now b t (W.contents out.old) (W.contents out.new) }
+    ensures front { IsErrOf result Fault.Write → (b : List ℕ) × (t : List ℕ) × IsRead (R.remaining script.old) runs.script_read b
+        × IsTextRead task.now.action (C.remaining cert.old) runs.certificate_read t × WritesFront task.now b t (W.contents out.old) (W.contents out.new) }
     ensures memory { IsErrOf result Fault.Memory → out.new ≡ out.old }
     ensures read { IsErrOf result Fault.Read → out.new ≡ out.old }
     ensures wrote { OnOk result (BoreOnly (W.tally out.old) (W.tally out.new)) }
@@ -80,7 +79,7 @@ pub fn run<R: Feed, C: Feed, W: Outlet>(
 // The certificate's text, or an empty one for an action that reads none.
 fn read_certificate<C: Feed>(alloc: Global, action: Action, cert: &mut C) -> Result<Vec<u8>, Fault>
     requires { HasRoom (C.tally cert.old) }
-    ensures taken { IfOk result (λ v. (t : List ℕ) → HadText action (C.remaining cert.old) runs.certificate_read t → v.items ≡ t) }
+    ensures taken { IfOk result (λ v. IsTextRead action (C.remaining cert.old) runs.certificate_read v.items) }
     ensures left { (action ≡ actions.Check → ⊥) → cert.new ≡ cert.old }
     ensures whole { OnOk result (action ≡ actions.Check → TookWhole (C.tally cert.old) (C.tally cert.new) (C.remaining cert.old) (C.remaining cert.new) runs.certificate_read) }
     ensures lost { OnErr result (action ≡ actions.Check → TookAtMost (C.remaining cert.old) (C.remaining cert.new) runs.certificate_read) }

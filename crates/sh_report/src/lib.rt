@@ -4,6 +4,7 @@
 
 mod checks;
 mod engine;
+pub mod laws;
 mod lints;
 mod prints;
 

@@ -5,10 +5,9 @@
 ghost use Rattle.std.specs.Prelude.{◌≡◌, ℕ, List, [], IfOk};
 ghost use Rattle.std.specs.Process.{exit_status};
 ghost use Rattle.sh_answers.specs.Ends.{HasRoom};
-ghost use Rattle.sh_answers.specs.Moves.{Had};
 ghost use Rattle.sh_accept.specs.Written.{Tells};
 ghost use Rattle.sh_report.specs.Promises.{EndsSafe};
-ghost use Rattle.sh_report.specs.Runs.{HadText, certificate_read, script_read};
+ghost use Rattle.sh_report.specs.Runs.{IsRead, IsTextRead, certificate_read, script_read};
 ghost use Rattle.shset.specs.Endings.{Ends, Offers, seen};
 
 mod ending;
@@ -65,10 +64,9 @@ fn run_over<R: Print + AllocGlobal, S: Read + Drop, C: Read + Drop>(
     script: S,
     certificate: C,
 ) -> Result<u8, Fault>
-    ensures answer { IfOk result (λ status. (b t : List ℕ) → Had (S.remaining script) script_read b → HadText line.now.task.action (C.remaining certificate) certificate_read t
-        → (text : List ℕ) × Tells line.now.task.action b t line.now.task.policy text status) }
-    ensures safe { IfOk result (λ status. (b t : List ℕ) → Had (S.remaining script) script_read b → HadText line.now.task.action (C.remaining certificate) certificate_read t
-        → EndsSafe line.now.task b status) }
+    ensures answer { IfOk result (λ status. (b : List ℕ) × (t : List ℕ) × IsRead (S.remaining script) script_read b
+        × IsTextRead line.now.task.action (C.remaining certificate) certificate_read t × (text : List ℕ) × Tells line.now.task.action b t line.now.task.policy text status) }
+    ensures safe { IfOk result (λ status. (b : List ℕ) × IsRead (S.remaining script) script_read b × EndsSafe line.now.task b status) }
 {
     let mut script = Counted::new(script);
     let mut certificate = Counted::new(certificate);
@@ -87,7 +85,10 @@ fn run_script<R: Files + Input + Print + AllocGlobal, S: Read + Drop>(
     rt: &R,
     line: &Line<'_>,
     script: S,
-) -> Result<u8, Fault> {
+) -> Result<u8, Fault>
+    ensures answer { IfOk result (λ status. (b : List ℕ) × (t : List ℕ) × IsRead (S.remaining script) script_read b × (text : List ℕ) × Tells line.now.task.action b t line.now.task.policy text status) }
+    ensures safe { IfOk result (λ status. (b : List ℕ) × IsRead (S.remaining script) script_read b × EndsSafe line.now.task b status) }
+{
     match line.cert {
         None => run_over(rt, line, script, b"".as_slice()),
         Some(Source::Input) => run_over(rt, line, script, rt.reader()),
@@ -99,7 +100,9 @@ fn run_script<R: Files + Input + Print + AllocGlobal, S: Read + Drop>(
 }
 
 /// Runs over the script that the line names.
-fn run_line<R: Files + Input + Print + AllocGlobal>(rt: &R, line: &Line<'_>) -> Result<u8, Fault> {
+fn run_line<R: Files + Input + Print + AllocGlobal>(rt: &R, line: &Line<'_>) -> Result<u8, Fault>
+    ensures { IfOk result (λ status. (b : List ℕ) × (t : List ℕ) × (text : List ℕ) × Tells line.now.task.action b t line.now.task.policy text status) }
+{
     match line.script {
         Source::Input => run_script(rt, line, rt.reader()),
         Source::File(name) => match fs::open(rt, name) {

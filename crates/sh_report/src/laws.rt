@@ -1,0 +1,16 @@
+//! The limits of what is read.
+ghost use Rattle.std.specs.Prelude.{◌≡◌};
+
+use sh_domain::MAX_CERTIFICATE;
+use sh_tree::{MAX_COMMANDS, MAX_NAMES, MAX_NESTING, MAX_SCRIPT};
+
+/// A script has at most so many bytes, commands and names, and nests no deeper. Among its names are
+/// those of its policy and five that every script has. A certificate's text has at most so many
+/// bytes.
+pub fn limits()
+    ensures script { MAX_SCRIPT ≡ 1048576 }
+    ensures nesting { MAX_NESTING ≡ 64 }
+    ensures commands { MAX_COMMANDS ≡ 65535 }
+    ensures names { MAX_NAMES ≡ 4096 }
+    ensures certificate { MAX_CERTIFICATE ≡ 67108864 }
+{}
