@@ -1,4 +1,4 @@
-use Rattle.std.proofs.Common.{arith, IfOk, ◌∷◌, ◌+◌, drop, refl, subst}
+use Rattle.std.proofs.Common.{IfOk, ◌∷◌, ◌+◌, drop, refl, subst}
 use Rattle.std.proofs.lemmas.List.{drop_all}
 use Rattle.std.proofs.lemmas.Result.{IfOk-weaker}
 use Rattle.sh_tree.specs.Lists.{elements_from, operands_from, parts_from, redirects_from, words_from}
