@@ -112,6 +112,14 @@ def shift_stages(size):
     return text_of([*lines, "f0() { a || {", *(f'b && f{number} "$@"' for number in range(1, count)), "}; }", 'f0 "$@"'])
 
 
+def shift_waves(size):
+    """Branches after a loop, each with fewer parameters than the one before, and then many commands."""
+    count = max(2, size * 2 // 3 // 27)
+    branches = [f'elif a; then : "${{{count + 1000 - number}?}}"' for number in range(count)]
+    lines = ["while a; do shift; done", f'if a; then : "${{{count + 1001}?}}"', *branches, "fi"]
+    return text_of([*lines, *(["b"] * max(2, (size - len(text_of(lines))) // 2))])
+
+
 def chain(order):
     def made(size):
         count = count_of(size, "f1000() { f1000; }")
@@ -526,6 +534,7 @@ FAMILIES = {
     "shift nested": (shift_nested, ALL_PARAMETERS),
     "shift floors": (shift_floors, ALL_PARAMETERS),
     "shift stages": (shift_stages, ALL_PARAMETERS),
+    "shift waves": (shift_waves, ALL_PARAMETERS),
     **{f"shift and {name}": (shift_beside(line), ALL_PARAMETERS) for name, line in BESIDE.items()},
     **{f"shift round {name}": (of(start, each('echo "$vN"\n'), end), ALL_PARAMETERS) for name, (start, end) in ROUND.items()},
     "chain": (chain("in order"), ()),

@@ -1,5 +1,4 @@
 //! A certificate that is lowered.
-ghost use Rattle.std.specs.Prelude.{◌≡◌};
 
 use sh_domain::Certificate;
 use sh_rows::BitRow;
@@ -106,14 +105,6 @@ impl Draft {
     /// hint.
     pub fn carries(&self) -> bool {
         self.looks > self.patience
-    }
-
-    /// Notes that what is known was carried over a utility.
-    pub fn note_carried(&mut self)
-        ensures certificate { self.new.certificate ≡ self.old.certificate }
-        ensures probe { self.new.probe ≡ self.old.probe }
-    {
-        self.looks = self.looks.saturating_add(1);
     }
 
     /// Whether a call goes over a body of the function at once, though a pass over it has ended: a
