@@ -82,6 +82,13 @@ sweep::sweep_and_or-sweep_pipe-requires t c =
     let placed : IsPipe s c.args.by y (knowledge_facts s.names.now c.args.known.now) (out-AndOr c.args.list.now).first = pipe_placed s c.args.by y (knowledge_facts s.names.now c.args.known.now) c.args.list.now c.requires.placed in
     search std_rules
 
+pub sweep::sweep_and_or-behind_pipe-behind-requires : goal.sweep::sweep_and_or-behind_pipe-behind-requires
+sweep::sweep_and_or-behind_pipe-behind-requires t c =
+    let s = c.args.subject.now in
+    let r = c.requires.ready in
+    let ready : IsReady s c.sweep_pipe.new.draft.certificate c.sweep_pipe.new.draft.probe.count = ready_again s _ _ _ _ r c.in_ok-sweep_pipe.ensures.swept in
+    search std_rules
+
 pub sweep::sweep_and_or-sweep_links-requires : goal.sweep::sweep_and_or-sweep_links-requires
 sweep::sweep_and_or-sweep_links-requires t c =
     let s = c.args.subject.now in
@@ -628,8 +635,8 @@ choices::sweep_clause-returns-clause-swept = choices.sweep_clause-returns-clause
 pub choices::sweep_cond-returns-in-Some : goal.choices::sweep_cond-returns-in-Some
 choices::sweep_cond-returns-in-Some = choices.sweep_cond-returns-in-Some
 
-pub sweep::sweep_items-pass_idle-requires : goal.sweep::sweep_items-pass_idle-requires
-sweep::sweep_items-pass_idle-requires t c =
+pub sweep::sweep_items-pass_idle-next-requires : goal.sweep::sweep_items-pass_idle-next-requires
+sweep::sweep_items-pass_idle-next-requires t c =
     let s = c.args.subject.now in
     let r = c.requires.ready in
     let course = c.loop-place.course in
