@@ -30,5 +30,5 @@ returns-then-is_first_at c =
     let r = c.index.result.now in
     let same : r.number ≡ c.args.command = ap (λ (y : declared.Row). y.number) c.index.ensures ∙ first.here yes r in
     let before : (k : ℕ) → suc k ≡ at → (d : declared.Row) → (get_or rows k d).number < c.args.command =
-        λ k e d. let last : at - 1 ≡ k = omega (arith, e) in subst (λ i. (get_or rows i d).number < c.args.command) last (first.before yes (omega (arith, e)) d) in
+    λ k e d. let last : at - 1 ≡ k = omega (arith, e) in subst (λ i. (get_or rows i d).number < c.args.command) last (first.before yes (omega (arith, e)) d) in
     rw (← c.self.view_is) (row_here _ c.args.command at rows r up (first.within yes) c.index.ensures same before)
