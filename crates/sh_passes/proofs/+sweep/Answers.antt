@@ -85,8 +85,7 @@ sweep::sweep_and_or-sweep_pipe-requires t c =
 pub sweep::sweep_and_or-behind_pipe-behind-requires : goal.sweep::sweep_and_or-behind_pipe-behind-requires
 sweep::sweep_and_or-behind_pipe-behind-requires t c =
     let s = c.args.subject.now in
-    let r = c.requires.ready in
-    let ready : IsReady s c.sweep_pipe.new.draft.certificate c.sweep_pipe.new.draft.probe.count = ready_again s _ _ _ _ r c.in_ok-sweep_pipe.ensures.swept in
+    let ready : IsReady s c.sweep_pipe.new.draft.certificate c.sweep_pipe.new.draft.probe.count = ready_again s _ _ _ _ c.requires.ready c.in_ok-sweep_pipe.ensures.swept in
     search std_rules
 
 pub sweep::sweep_and_or-sweep_links-requires : goal.sweep::sweep_and_or-sweep_links-requires
@@ -638,11 +637,9 @@ choices::sweep_cond-returns-in-Some = choices.sweep_cond-returns-in-Some
 pub sweep::sweep_items-pass_idle-next-requires : goal.sweep::sweep_items-pass_idle-next-requires
 sweep::sweep_items-pass_idle-next-requires t c =
     let s = c.args.subject.now in
-    let r = c.requires.ready in
     let course = c.loop-place.course in
-    let y = walks.around s.script.now c.args.around.now in
-    let ready : IsReady s c.loop-place.draft.certificate c.loop-place.draft.probe.count = ready_again s _ _ _ _ r c.loop-place.invariant.swept in
-    let placed : (y : Around) × AreItems s course.by y (known_behind s course.behind) (drop c.loop-place.place c.args.items.now) = (y, c.loop-place.invariant.placed) in
+    let ready : IsReady s c.loop-place.draft.certificate c.loop-place.draft.probe.count = ready_again s _ _ _ _ c.requires.ready c.loop-place.invariant.swept in
+    let placed : (y : Around) × AreItems s course.by y (known_behind s course.behind) (drop c.loop-place.place c.args.items.now) = (_, c.loop-place.invariant.placed) in
     search std_rules
 
 pub sweep::sweep_items-sweep_or_pass-requires : goal.sweep::sweep_items-sweep_or_pass-requires
