@@ -210,6 +210,16 @@ def triggers_before(line):
     return of
 
 
+def triggers_before_names(size):
+    """Each loss takes a variable too, before lines that set one each. So it gives each of these a set of its own."""
+    count = max(3, min(200, size // 150))
+    start = [f"c{n}() {{ exit; }}\nw{n}=" for n in range(count)]
+    back = [f"a && c{n} && unset w{n} && unset -f c{n + 1}" for n in reversed(range(count - 1))]
+    lines = [*start, "while a; do", *back, "unset -f c0"]
+    names = (f"read -r v{n}" for n in range(MOST_NAMES - 2 * count))
+    return text_of([*lines, *joined(names, size - len(text_of(lines)) - len("done\n")), "done"])
+
+
 def triggers_by_functions(size):
     count = count_of(size, "c1000() { exit; }\nf1000() { a && c1000 && unset -f c1000; f1000; }", MOST_NAMES // 2)
     lines = [f"c{n}() {{ exit; }}" for n in range(count)]
@@ -551,6 +561,7 @@ FAMILIES = {
     "triggers": (triggers, ()),
     "triggers before": (triggers_before("b"), ()),
     "triggers before assignments": (triggers_before("v1=x"), ()),
+    "triggers before names": (triggers_before_names, ()),
     "trigger circle": (triggers_by_functions, ()),
     "trigger calls": (trigger_calls, ()),
     "told by parts": (told_by_parts, ()),
@@ -593,6 +604,7 @@ ROUNDS = {
     "triggers": rounds_of,
     "triggers before": rounds_of,
     "triggers before assignments": rounds_of,
+    "triggers before names": rounds_of,
     "trigger calls": rounds_of,
     "told by parts": findings_of,
     "told in parts of parts": findings_of,

@@ -107,6 +107,16 @@ module _ (names : List Text) (h : AreNumbered names) (functions : List Text) (lo
                 subst (IsWithin (facts (claim_there d (Some p)))) (sym (claimed names h loops m new after p ∙ ap (named names) (low.here refl)))
                 (met (claims old p) (facts (claim_there d (Some p))) known (subst (IsWithin (facts (claim_there d (Some p)))) (claimed names h loops m old before p) v) known_there)
 
+    pub same_above : ((p : Place) → claims new p ≡ claims old p) → ((i : ℕ) → dropped new i ≡ dropped old i) → IsBelow (certificate_of functions d) (certificate_of functions new_sheet)
+    unfolding claim_there facts
+    same_above claim drop =
+        let b = to_places d old_sheet below in
+        back_from d new_sheet (record { claim = λ slot. at_place (place_of functions slot) (b.claim slot); drop = λ f. same_drops drop (number_of functions f) (b.drop f) })
+      where
+        at_place : (o : Option Place) → IsWithin (facts (claim_there d o)) (facts (claim_there old_sheet o)) → IsWithin (facts (claim_there d o)) (facts (claim_there new_sheet o))
+        at_place None w = w
+        at_place (Some q) w = subst (IsWithin (facts (claim_there d (Some q)))) (same_claim q (claim q)) w
+
     -- what is dropped by both
     either : (part : Sets → ℕ → Bool) (both : (s z : Sets) (k : ℕ) → part (joined s z) k ≡ (part z k || part s k)) (sets : Sets) (o : Option Sets) (x : Text)
         → is_dropped part names (option_map (joined sets) o) x ≡ true → (at_number (part sets) (number_of names x) ≡ true) ⊎ (is_dropped part names o x ≡ true)

@@ -58,7 +58,7 @@ heads_on commands j old new c l low is loop heads here others = record {
 some_one : {A : Type 0} (x y : A) → Some x ≡ Some y → x ≡ y
 some_one x y e = cc
 
-repeated : {A : Type 0} (n i : ℕ) (a x : A) → slice_get (replicate n a) i ≡ Some x → x ≡ a
+pub repeated : {A : Type 0} (n i : ℕ) (a x : A) → slice_get (replicate n a) i ≡ Some x → x ≡ a
 repeated n i a x e =
     let l : i < length (replicate n a) = slice_get_within (replicate n a) i x e in
     let m : i < n = subst (λ k. i < k) (length-replicate n a) l in

@@ -236,3 +236,24 @@ module _ (names : List Text) (loops : List Bool) (m : ℕ) (old new : Certificat
       let a = total_le (command_rank k new) (command_rank k old) (length loops) commands_le in
       let b = total_less (function_rank k new) (function_rank k old) m i functions_le (drops_below names loops m old before i (low.there refl)) strictly in
       omega (arith, a, b)
+
+-- A certificate that claims the same
+
+module _ (n : ℕ) (old new : Certificate) (claim : (p : Place) → claims new p ≡ claims old p) (drop : (i : ℕ) → dropped new i ≡ dropped old i) where
+  at_place : (p : Place) → claim_rank n (claims new p) ≡ claim_rank n (claims old p)
+  at_place p = ap (claim_rank n) (claim p)
+
+  at_command : (i : ℕ) → command_rank n new i ≤ command_rank n old i
+  unfolding command_rank
+  at_command i = let a = at_place (at Before i) in let b = at_place (at Zero i) in let c = at_place (at Nonzero i) in let d = at_place (at Head i) in omega (arith, a, b, c, d)
+
+  at_function : (i : ℕ) → function_rank n new i ≤ function_rank n old i
+  unfolding function_rank
+  at_function i =
+      let a = at_place (at Entered i) in let b = at_place (at ReturnZero i) in let c = at_place (at ReturnNonzero i) in let d = ap (drops_rank n) (drop i) in omega (arith, a, b, c, d)
+
+  pub same_height : (commands functions : ℕ) → height n commands functions new ≤ height n commands functions old
+  same_height commands functions =
+      let a = total_le (command_rank n new) (command_rank n old) commands at_command in
+      let b = total_le (function_rank n new) (function_rank n old) functions at_function in
+      omega (arith, a, b)

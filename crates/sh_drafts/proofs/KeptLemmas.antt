@@ -261,10 +261,10 @@ module _ (p : Place) (f : value.Facts) where
 
 -- Drops that are put
 
-some_at : {A : Type 0} (xs : List A) (i : ℕ) (x y : A) → i < length xs → slice_get (set xs i y) i ≡ Some y
+pub some_at : {A : Type 0} (xs : List A) (i : ℕ) (x y : A) → i < length xs → slice_get (set xs i y) i ≡ Some y
 some_at xs i x y l = slice_get-get_or (set xs i y) i y (subst (λ n. i < n) (sym (length-set xs i y)) l) ∙ ap Some (get_or-set_same xs i y y l)
 
-else_at : {A : Type 0} (xs : List A) (i j : ℕ) (y : A) → ¬ (j ≡ i) → slice_get (set xs i y) j ≡ slice_get xs j
+pub else_at : {A : Type 0} (xs : List A) (i j : ℕ) (y : A) → ¬ (j ≡ i) → slice_get (set xs i y) j ≡ slice_get xs j
 else_at [] i j y n = refl
 else_at (x ∷ xs) zero zero y n = absurd (n refl)
 else_at (x ∷ xs) zero (suc j) y n = refl

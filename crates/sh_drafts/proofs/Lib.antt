@@ -16,3 +16,4 @@ pub mod FunctionLemmas
 pub mod StartLemmas
 pub mod BegunLemmas
 pub mod InnerLemmas
+pub mod UsedLemmas

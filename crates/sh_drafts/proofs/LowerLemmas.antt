@@ -51,17 +51,21 @@ unfolding IsPlaced
 functions_placed n f v g a is p = (subst (IsPlaced n) is p).1
 
 -- facts that are equal know the same
-vars_of : Facts → ℕ → Bool
+pub vars_of : Facts → ℕ → Bool
 vars_of NotReached k = false
 vars_of (Known v f a) k = v k
 
-functions_of : Facts → ℕ → Bool
+pub functions_of : Facts → ℕ → Bool
 functions_of NotReached k = false
 functions_of (Known v f a) k = f k
 
-args_of : Facts → ℕ
+pub args_of : Facts → ℕ
 args_of NotReached = 0
 args_of (Known v f a) = a
+
+pub is_reached : Facts → Bool
+is_reached NotReached = false
+is_reached (Known v f a) = true
 
 pub drops_kept : (rows : KeptRows) (vars functions : NumberSet) (f : value.Facts) (v g : RowId) (a b : ℕ) → f ≡ value_kind.Known v g a
     → fact_of rows.rows f ≡ Known (numbers_of vars) (numbers_of functions) b → sets_of rows (record { vars = v; functions = g }) ≡ sets_in vars functions
@@ -73,15 +77,11 @@ drops_kept rows vars functions f v g a b is same =
     ap₂ (λ (x y : ℕ → Bool). record { vars = x; functions = y }) left right
 
 pub drops_known : (rows : KeptRows) (vars functions : NumberSet) (f : value.Facts) (b : ℕ) → f ≡ value_kind.NotReached → fact_of rows.rows f ≡ Known (numbers_of vars) (numbers_of functions) b → ⊥
-unfolding fact_of
+unfolding fact_of is_reached
 drops_known rows vars functions f b is same =
     let e : fact_of rows.rows value_kind.NotReached ≡ Known (numbers_of vars) (numbers_of functions) b = ap (fact_of rows.rows) (sym is) ∙ same in
     let wrong : NotReached ≡ Known (numbers_of vars) (numbers_of functions) b = e in
-    true≢false (ap is_none wrong)
-  where
-    is_none : Facts → Bool
-    is_none NotReached = true
-    is_none (Known v g a) = false
+    true≢false (sym (ap is_reached wrong))
 
 -- Names that may be there
 

@@ -18,8 +18,9 @@ use Rattle.sh_domain.specs.Views.{Slot}
 use Rattle.sh_drafts.specs.Kept.{IsNamed}
 use Rattle.sh_drafts.specs.Facts as number
 use Rattle.sh_drafts.specs.Numbers.{by_name, by_number}
-use Rattle.sh_drafts.proofs.AboveLemmas.{lowered_above}
-use Rattle.sh_drafts.proofs.HeightLemmas.{lowered_less}
+use Rattle.sh_drafts.specs.Used.{IsSame}
+use Rattle.sh_drafts.proofs.AboveLemmas.{lowered_above, same_above}
+use Rattle.sh_drafts.proofs.HeightLemmas.{lowered_less, same_height}
 use Rattle.sh_drafts.proofs.KeptLemmas.{place_same}
 use Rattle.sh_drafts.specs.declared.subject.Subject.{Subject}
 use Rattle.sh_drafts.specs.Ready.{Keeps, IsReady, IsSwept}
@@ -50,8 +51,8 @@ lowered_stays old new p known true l quiet = record { claims = λ q e. by q e (s
 module _ (s : Subject) where
   -- One after the other
 
-  same_height : (n : ℕ) → n ≤ n
-  same_height n = omega arith
+  as_high : (n : ℕ) → n ≤ n
+  as_high n = omega arith
 
   pub stays_none : (c : kept.Certificate) → StatedStays c c
   stays_none c = record { claims = λ p e. refl; drops = λ i. refl }
@@ -60,7 +61,7 @@ module _ (s : Subject) where
   stays_more old mid new a z = record { claims = λ p e. z.claims p e ∙ a.claims p e; drops = λ i. z.drops i ∙ a.drops i }
 
   pub swept_none : (c : kept.Certificate) (n : ℕ) → IsReady s c n → IsSwept s c c n
-  swept_none c n r = record { working = λ loops m w. w; no_more = λ loops m w. same_height _; over = r.over; stays = λ e. stays_none c; probe = r.probe }
+  swept_none c n r = record { working = λ loops m w. w; no_more = λ loops m w. as_high _; over = r.over; stays = λ e. stays_none c; probe = r.probe }
 
   pub swept_more : (old mid new : kept.Certificate) (n k : ℕ) → IsSwept s old mid n → IsSwept s mid new k → IsSwept s old new k
   swept_more old mid new n k a z = record {
@@ -117,6 +118,19 @@ lowered_swept s old new p known changed n k r low works stand free probe =
         (subst (IsLowered old new p known) e (low r.loops r.functions r.working)) (stand other keeps)
     above other keeps false e =
         subst (λ c. IsBelow (claims_in s.script.now s.tree.now other) (claims_in s.script.now s.tree.now (sheet_by s.names.now c))) (sym ((low r.loops r.functions r.working).stays e)) (r.over other keeps)
+
+-- a certificate that claims the same
+pub moved_swept : (s : Subject) (old new : kept.Certificate) (n k : ℕ) → IsReady s old n → IsSame old new → k ≡ n → IsSwept s old new k
+moved_swept s old new n k r same probe =
+    record {
+      working = same.working s.names.now;
+      no_more = λ loops m w. same_height (length s.names.now) old new same.claims same.drops (length loops) m;
+      over = λ other keeps.
+          same_above s.names.now (names_numbered s old n r) (functions_in s.script.now s.tree.now) r.loops r.functions old new r.working (same.working s.names.now r.loops r.functions r.working) other (r.over other keeps)
+          same.claims same.drops;
+      stays = λ e. record { claims = λ p f. same.claims p; drops = same.drops };
+      probe = probe ∙ r.probe;
+    }
 
 -- By numbers
 

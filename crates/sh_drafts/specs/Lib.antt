@@ -18,3 +18,4 @@ pub mod Ready
 pub mod Functions
 pub mod Idle
 pub mod Inner
+pub mod Used

@@ -18,6 +18,7 @@ use crate::place::Place;
 use crate::sight::Sight;
 use crate::sights::sight_of;
 use crate::subject::Subject;
+use crate::used::drop_unused;
 use crate::wakes::note_place;
 use sh_domain::Assured;
 use std::alloc::AllocError;
@@ -27,7 +28,7 @@ use std::alloc::AllocError;
 ///
 /// # Errors
 ///
-/// If a growth was refused or no place for a row is left.
+/// If a growth was refused.
 pub fn lower_at(
     subject: &Subject<'_>,
     draft: &mut Draft,
@@ -66,7 +67,7 @@ fn is_low(draft: &Draft, place: Place, assured: &Assured) -> bool {
 ///
 /// # Errors
 ///
-/// If a growth was refused or no place for a row is left.
+/// If a growth was refused.
 pub fn lower_assured(
     subject: &Subject<'_>,
     draft: &mut Draft,
@@ -79,9 +80,11 @@ pub fn lower_assured(
     ensures swept { IfOk result (λ unit. IsSwept subject.now draft.old.certificate draft.new.certificate draft.new.probe.count) }
 {
     draft.looks = draft.looks.saturating_add(1);
+    drop_unused(draft)?;
     if is_low(&*draft, place, assured) {
         return Ok(());
     }
     let sight = sight_of(subject.names, assured);
-    lower_at(subject, draft, place, &sight)
+    lower_at(subject, draft, place, &sight)?;
+    Ok(())
 }

@@ -234,7 +234,7 @@ fn state_functions(
 ///
 /// # Errors
 ///
-/// If a growth was refused or no place for a row is left.
+/// If a growth was refused.
 pub fn begun(
     alloc: Global,
     subject: &Subject<'_>,

@@ -1,6 +1,6 @@
 //! A certificate that is lowered.
 
-use sh_domain::Certificate;
+use sh_domain::{Certificate, Facts, RowId, Rows};
 use sh_rows::BitRow;
 use sh_worklist::Waiting;
 use std::alloc::Global;
@@ -35,6 +35,8 @@ pub struct Draft {
     pub again: u64,
     /// How often a function was entered so far that had not been: a hint.
     pub entered: u64,
+    /// If there are more rows than these, those that no claim has any more are dropped: a hint.
+    pub room: usize,
     /// The commands that wait to be looked at: a hint.
     pub waiting: Waiting,
 }
@@ -50,6 +52,9 @@ const LONE_LOOKS: u64 = 2;
 
 // After more rounds than these in which counts alone fell, a sweep leaves a loop at first.
 const ROUNDS: u32 = 2;
+
+// How many rows more than twice those that claims have there may be for each command.
+const ROWS: usize = 2;
 
 // How often that is doubled at most.
 const MOST_DOUBLED: u32 = 20;
@@ -84,6 +89,25 @@ pub fn tires_after(looks: u64, commands: usize) -> u64 {
     after(looks, commands, LONE_LOOKS)
 }
 
+/// How many rows there may be of a certificate of so many commands until those that no claim has
+/// any more are dropped, if there are so many: a hint.
+pub fn room_after(rows: usize, commands: usize) -> usize {
+    let more = commands.saturating_add(32).saturating_mul(ROWS);
+    rows.saturating_mul(2).saturating_add(more)
+}
+
+// How many numbers are in the row of a place.
+fn size_of(rows: &Rows, id: RowId) -> u64 {
+    let Some(row) = rows.row(id) else {
+        return 0;
+    };
+    let mut size: u64 = 0;
+    for word in row.words() {
+        size = size.saturating_add(u64::from(word.count_ones()));
+    }
+    size
+}
+
 impl Draft {
     /// Whether the counts fell so often, or alone for so long, that they are to be solved apart: a
     /// hint.
@@ -105,6 +129,26 @@ impl Draft {
     /// hint.
     pub fn carries(&self) -> bool {
         self.looks > self.patience
+    }
+
+    /// How much is claimed at the turns of the loop whose command has this number: a hint. Claims only
+    /// fall, so one of the same size is the same, even if its rows are at other places by now.
+    pub fn size_at_turns(&self, number: u32) -> Option<u64> {
+        match self.certificate.heads.get(&number)? {
+            Facts::NotReached => Some(u64::MAX),
+            Facts::Known {
+                vars,
+                functions,
+                args,
+            } => {
+                let vars = size_of(&self.certificate.rows, *vars);
+                let functions = size_of(&self.certificate.rows, *functions);
+                Some(
+                    vars.saturating_add(functions)
+                        .saturating_add(u64::from(*args)),
+                )
+            }
+        }
     }
 
     /// Whether a call goes over a body of the function at once, though a pass over it has ended: a

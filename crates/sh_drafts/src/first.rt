@@ -2,7 +2,7 @@
 ghost use Rattle.std.specs.Prelude.{◌≡◌, ◌+◌, ◌≤◌, ℕ, List, false, length, nat_eq, None, IfOk, OnOk};
 ghost use Rattle.indexmap.specs.IndexMap.{get};
 ghost use Rattle.sh_tree.specs.standard.program.Syntax.{Text};
-ghost use Rattle.sh_domain.specs.KeptRows.{holds_at};
+ghost use Rattle.sh_domain.specs.KeptRows.{Stay, holds_at};
 ghost use Rattle.sh_domain.specs.Reading.{loops_of};
 ghost use Rattle.sh_drafts.specs.Facts.{NotReached};
 ghost use Rattle.sh_drafts.specs.First.{AreHeads, ClaimsAll, DropsNothing, head_if};
@@ -40,12 +40,16 @@ fn heads_of(alloc: Global, commands: &[&Command]) -> Result<IndexMap<u32, Facts>
     Ok(heads)
 }
 
-// The row of no names, which is added.
-fn no_names(alloc: Global, rows: &mut Rows, count: u32) -> Result<RowId, AllocError>
-    requires none { length rows.old.rows ≡ 0 }
+/// The row of no names, which is added if there is none.
+///
+/// # Errors
+///
+/// If a growth was refused.
+pub fn no_names(alloc: Global, rows: &mut Rows, count: u32) -> Result<RowId, AllocError>
     requires count { rows.old.count ≡ count }
     ensures none { IfOk result (λ id. (k : ℕ) → holds_at rows.new.rows id.index k ≡ false) }
     ensures there { IfOk result (λ id. id.index + 1 ≤ length rows.new.rows) }
+    ensures stay { Stay rows.old.rows rows.new.rows }
     ensures count { rows.new.count ≡ rows.old.count }
 {
     let row = BitRow::empty(alloc, count)?;

@@ -41,7 +41,7 @@ fn facts_near(certificate: &Certificate, place: Place) -> Facts {
 ///
 /// # Errors
 ///
-/// If a growth was refused or no place for a row is left.
+/// If a growth was refused.
 pub fn lower(
     names: &Names,
     writable: &Writable,
@@ -84,7 +84,7 @@ pub fn lower(
 ///
 /// # Errors
 ///
-/// If a growth was refused or no place for a row is left.
+/// If a growth was refused.
 #[tactic(auto, unfolding(crate::specs::Kept::seen_of))]
 pub fn lower_known(
     names: &Names,
@@ -165,7 +165,7 @@ fn keep_drops(
 ///
 /// # Errors
 ///
-/// If a growth was refused or no place for a row is left.
+/// If a growth was refused.
 pub fn count(
     names: &Names,
     writable: &Writable,

@@ -15,7 +15,7 @@ ghost use Rattle.sh_domain.specs.Filled.{FillsTo};
 use crate::search::{Way, settle};
 use sh_domain::{Certificate, Compact, Names, Policy};
 use sh_drafts::begun::begun;
-use sh_drafts::{Draft, Subject, Writable};
+use sh_drafts::{Draft, Subject, Writable, room_after};
 use sh_rows::{BitRow, Row};
 use sh_table::CallTable;
 use sh_tree::{Script, commands};
@@ -58,6 +58,7 @@ fn filled(alloc: Global, subject: &Subject<'_>) -> Result<Certificate, AllocErro
         patience: u64::MAX,
         again: 0,
         entered: 0,
+        room: room_after(0, subject.commands.len()),
         waiting: Waiting::all(alloc, subject.table)?,
     };
     settle(subject, &mut draft, Way::Once)?;
@@ -71,7 +72,7 @@ fn filled(alloc: Global, subject: &Subject<'_>) -> Result<Certificate, AllocErro
 ///
 /// # Errors
 ///
-/// `AllocError` if a growth was refused or no place for a row is left.
+/// `AllocError` if a growth was refused.
 pub fn fill(
     alloc: Global,
     tree: &Script,

@@ -16,8 +16,8 @@ ghost use Rattle.sh_drafts.specs.Working.{IsWorking};
 use indexmap::IndexMap;
 use sh_domain::{Certificate, Compact, Facts, Names, Policy, Rows};
 use sh_drafts::{
-    Draft, Subject, Target, Writable, patience_after, rest_after, rounds_after, tires_after,
-    unreached,
+    Draft, Subject, Target, Writable, patience_after, rest_after, room_after, rounds_after,
+    tires_after, unreached,
 };
 use sh_passes::{sweep_by_rounds, sweep_round, sweep_waiting};
 use sh_rows::{BitRow, Row};
@@ -88,7 +88,7 @@ fn sweep_so(subject: &Subject<'_>, draft: &mut Draft, way: Way) -> Result<(), Al
 ///
 /// # Errors
 ///
-/// If a growth was refused or no place for a row is left.
+/// If a growth was refused.
 pub fn settle(subject: &Subject<'_>, draft: &mut Draft, way: Way) -> Result<(), AllocError>
     requires ready { IsReady subject.now draft.old.certificate draft.old.probe.count }
     requires variables { list_all is_variable subject.now.names.now ≡ true }
@@ -144,6 +144,7 @@ fn settled(alloc: Global, subject: &Subject<'_>, way: Way) -> Result<(Certificat
         patience: u64::MAX,
         again: 0,
         entered: 0,
+        room: room_after(0, subject.commands.len()),
         waiting: Waiting::all(alloc, subject.table)?,
     };
     settle(subject, &mut draft, way)?;
@@ -200,7 +201,7 @@ fn searched(
 ///
 /// # Errors
 ///
-/// `AllocError` if a growth was refused or no place for a row is left.
+/// `AllocError` if a growth was refused.
 pub fn find(
     alloc: Global,
     tree: &Script,

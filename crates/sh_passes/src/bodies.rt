@@ -33,7 +33,7 @@ use std::alloc::AllocError;
 ///
 /// # Errors
 ///
-/// If a growth was refused or no place for a row is left.
+/// If a growth was refused.
 #[cycle(sweep)]
 pub fn sweep_called(
     subject: &Subject<'_>,
@@ -218,7 +218,7 @@ fn sweep_unit(subject: &Subject<'_>, draft: &mut Draft, unit: Unit) -> Result<()
 ///
 /// # Errors
 ///
-/// If a growth was refused or no place for a row is left.
+/// If a growth was refused.
 pub fn sweep_waiting(subject: &Subject<'_>, draft: &mut Draft) -> Result<(), AllocError>
     requires { IsReady subject.now draft.old.certificate draft.old.probe.count }
     ensures { IfOk result (λ unit. IsSwept subject.now draft.old.certificate draft.new.certificate draft.new.probe.count) }
@@ -254,7 +254,7 @@ fn sweep_if_defined(
 ///
 /// # Errors
 ///
-/// If a growth was refused or no place for a row is left.
+/// If a growth was refused.
 pub fn sweep_round(subject: &Subject<'_>, draft: &mut Draft) -> Result<(), AllocError>
     requires { IsReady subject.now draft.old.certificate draft.old.probe.count }
     ensures { IfOk result (λ unit. IsSwept subject.now draft.old.certificate draft.new.certificate draft.new.probe.count) }
@@ -271,7 +271,7 @@ pub fn sweep_round(subject: &Subject<'_>, draft: &mut Draft) -> Result<(), Alloc
 ///
 /// # Errors
 ///
-/// If a growth was refused or no place for a row is left.
+/// If a growth was refused.
 pub fn sweep_by_rounds(subject: &Subject<'_>, draft: &mut Draft) -> Result<(), AllocError>
     requires { IsReady subject.now draft.old.certificate draft.old.probe.count }
     ensures { IfOk result (λ unit. IsSwept subject.now draft.old.certificate draft.new.certificate draft.new.probe.count) }

@@ -25,7 +25,7 @@ use std::alloc::AllocError;
 ///
 /// # Errors
 ///
-/// If a growth was refused or no place for a row is left.
+/// If a growth was refused.
 #[cycle(sweep)]
 pub fn sweep_cond(
     subject: &Subject<'_>,
@@ -120,7 +120,7 @@ fn sweep_branch(
 ///
 /// # Errors
 ///
-/// If a growth was refused or no place for a row is left.
+/// If a growth was refused.
 #[cycle(sweep)]
 pub fn sweep_case(
     subject: &Subject<'_>,

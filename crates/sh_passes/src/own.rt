@@ -154,7 +154,7 @@ fn lower_once(
 ///
 /// # Errors
 ///
-/// If a growth was refused or no place for a row is left.
+/// If a growth was refused.
 pub fn lower_command(
     subject: &Subject<'_>,
     draft: &mut Draft,
@@ -176,7 +176,7 @@ pub fn lower_command(
 ///
 /// # Errors
 ///
-/// If a growth was refused or no place for a row is left.
+/// If a growth was refused.
 pub fn lower_head(
     subject: &Subject<'_>,
     draft: &mut Draft,
@@ -330,7 +330,7 @@ fn lower_others(
 ///
 /// # Errors
 ///
-/// If a growth was refused or no place for a row is left.
+/// If a growth was refused.
 pub fn lower_behind(
     subject: &Subject<'_>,
     draft: &mut Draft,

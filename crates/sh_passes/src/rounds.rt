@@ -13,15 +13,11 @@ use sh_rules::{Around, Loops};
 use sh_tree::Command;
 use std::alloc::AllocError;
 
-// What is claimed at each turn of a loop, if the command is one.
-fn head_at(draft: &Draft, number: u32) -> Option<Facts> {
-    draft.certificate.heads.get(&number).copied()
-}
-
 // Whether this is the first pass over a loop in a loop. One round is enough then, since the outer
 // loop takes another turn.
 fn is_passed_once(draft: &Draft, around: &Around<'_>, number: u32) -> bool {
-    matches!(around.loops, Loops::Inside(_, _)) && head_at(draft, number) == Some(Facts::NotReached)
+    let head = draft.certificate.heads.get(&number);
+    matches!(around.loops, Loops::Inside(_, _)) && matches!(head, Some(Facts::NotReached))
 }
 
 // One more round if counts alone fell in the last one, which began with so many other falls.
@@ -39,7 +35,7 @@ fn counted_on(draft: &Draft, before: u64, rounds: u32) -> u32 {
 ///
 /// # Errors
 ///
-/// If a growth was refused or no place for a row is left.
+/// If a growth was refused.
 #[cycle(sweep)]
 pub fn sweep_rounds(
     subject: &Subject<'_>,
@@ -58,11 +54,11 @@ pub fn sweep_rounds(
     lower_head(subject, draft, by, around, known, command)?;
     let mut rounds = 0;
     for _round in 0..u32::MAX {
-        let head = head_at(&*draft, command.number);
+        let size = draft.size_at_turns(command.number);
         let before = draft.falls_of_names();
         sweep_inside(subject, draft, levels, around, command)?;
         lower_head(subject, draft, by, around, known, command)?;
-        if head == head_at(&*draft, command.number) {
+        if size == draft.size_at_turns(command.number) {
             return Ok(());
         }
         rounds = counted_on(&*draft, before, rounds);

@@ -48,7 +48,7 @@ const CALLS: u32 = 128;
 ///
 /// # Errors
 ///
-/// If a growth was refused or no place for a row is left.
+/// If a growth was refused.
 #[cycle(sweep)]
 pub fn sweep_items(
     subject: &Subject<'_>,
@@ -512,7 +512,7 @@ fn is_simple(kind: &Kind) -> bool {
 ///
 /// # Errors
 ///
-/// If a growth was refused or no place for a row is left.
+/// If a growth was refused.
 #[cycle(sweep)]
 pub fn sweep_inside(
     subject: &Subject<'_>,
@@ -639,7 +639,7 @@ fn sweep_iteration(
 ///
 /// # Errors
 ///
-/// If a growth was refused or no place for a row is left.
+/// If a growth was refused.
 #[cycle(sweep)]
 pub fn sweep_list(
     subject: &Subject<'_>,
@@ -694,7 +694,7 @@ fn sweep_subshell(
 ///
 /// # Errors
 ///
-/// If a growth was refused or no place for a row is left.
+/// If a growth was refused.
 #[cycle(sweep)]
 pub fn sweep_definition(
     subject: &Subject<'_>,

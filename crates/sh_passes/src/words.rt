@@ -32,7 +32,7 @@ use std::alloc::AllocError;
 ///
 /// # Errors
 ///
-/// If a growth was refused or no place for a row is left.
+/// If a growth was refused.
 #[cycle(sweep)]
 pub fn sweep_elements(
     subject: &Subject<'_>,
@@ -84,7 +84,7 @@ fn sweep_element(
 ///
 /// # Errors
 ///
-/// If a growth was refused or no place for a row is left.
+/// If a growth was refused.
 #[cycle(sweep)]
 pub fn sweep_redirections(
     subject: &Subject<'_>,
@@ -146,7 +146,7 @@ fn pass_target(
 ///
 /// # Errors
 ///
-/// If a growth was refused or no place for a row is left.
+/// If a growth was refused.
 #[cycle(sweep)]
 pub fn sweep_for_words(
     subject: &Subject<'_>,
@@ -188,7 +188,7 @@ fn sweep_words(
 ///
 /// # Errors
 ///
-/// If a growth was refused or no place for a row is left.
+/// If a growth was refused.
 #[cycle(sweep)]
 pub fn sweep_patterns(
     subject: &Subject<'_>,
@@ -211,7 +211,7 @@ pub fn sweep_patterns(
 ///
 /// # Errors
 ///
-/// If a growth was refused or no place for a row is left.
+/// If a growth was refused.
 #[cycle(sweep)]
 pub fn pass_word(
     subject: &Subject<'_>,

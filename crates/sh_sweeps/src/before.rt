@@ -46,7 +46,7 @@ fn lower_entered(
 ///
 /// # Errors
 ///
-/// If a growth was refused or no place for a row is left.
+/// If a growth was refused.
 pub fn lower_before(
     subject: &Subject<'_>,
     draft: &mut Draft,

@@ -77,7 +77,7 @@ fn lower_next(
 ///
 /// # Errors
 ///
-/// If a growth was refused or no place for a row is left.
+/// If a growth was refused.
 pub fn turn(
     subject: &Subject<'_>,
     certificate: &mut Certificate,
