@@ -53,13 +53,14 @@ pub fn sweep_called(
     Ok(())
 }
 
-/// Whether a command calls a function over whose bodies the sweep goes again at once: a hint.
+/// Whether a command calls a function over whose bodies the sweep goes again at once: a hint. It does
+/// not if counts are to be solved apart.
 pub fn is_called_again(subject: &Subject<'_>, draft: &Draft, command: &Command) -> bool {
     let Some(function) = subject.table.callee(command.number) else {
         return false;
     };
     match subject.table.definitions(function) {
-        [number, ..] => draft.goes_again(*number),
+        [number, ..] => draft.goes_again(*number) && !draft.is_tired(),
         [] => false,
     }
 }

@@ -68,8 +68,8 @@ pub fn sweep_items(
     let mut place = 0;
     while place < items.len() {
         let next = pass_idle(subject, &*draft, course, is_new, items, place);
-        let carried = looks_between(is_new, place, next);
-        draft.looks = draft.looks.saturating_add(carried);
+        let passed = looks_between(is_new, &items[place..next]);
+        draft.looks = draft.looks.saturating_add(passed);
         place = next + 1;
         let item = &items[next];
         is_new = sweep_or_pass(subject, draft, levels, around, course, is_new, item)?;
@@ -77,13 +77,14 @@ pub fn sweep_items(
     Ok(())
 }
 
-// The items between two places over which what is known was carried, each of which is a look too.
-fn looks_between(is_new: bool, place: usize, next: usize) -> u64 {
+// How many looks it took to go on after these items: those over which what is known was carried are
+// looks too, and so are those after the last that settles what is known.
+fn looks_between(is_new: bool, items: &[Item]) -> u64 {
     if is_new {
-        next.saturating_sub(place) as u64
-    } else {
-        0
+        return items.len() as u64;
     }
+    let settled = items.iter().rev().position(|item| is_settled(item));
+    settled.unwrap_or(items.len()) as u64
 }
 
 // Goes on after the items from a place on that do not wait, if nothing is new before them, or else
@@ -109,6 +110,13 @@ fn pass_idle(
     let next = next_place(&draft.waiting, items, place);
     pass_all(subject, &draft.certificate, course, &items[place..next]);
     next
+}
+
+// Whether what is new before an item may be new after it, though nothing fell in it: a hint. It is
+// entered with all that is known, except that processes have no `!`. One that goes on beside the
+// shell sets `!`.
+fn keeps_news(subject: &Subject<'_>, item: &Item) -> bool {
+    !item.background && !is_settled(item) && subject.names.number(b"!").is_some()
 }
 
 // Goes on after an item, and lowers the certificate at its commands if what is known before them is
@@ -137,7 +145,7 @@ fn sweep_or_pass(
     }
     let before = draft.lowered;
     sweep_item(subject, draft, levels, around, course, item)?;
-    Ok(draft.lowered != before || (is_new && !is_settled(item)))
+    Ok(draft.lowered != before || (is_new && keeps_news(subject, item)))
 }
 
 // Lowers the certificate at the commands of an item, and goes on after it.
