@@ -29,7 +29,7 @@ use Rattle.sh_domain.specs.Admitted.{IsAdmitted, claims_in, functions_in}
 use Rattle.sh_accept.specs.Accepted.{IsAcceptedText}
 use Rattle.sh_accept.specs.Answers.{Checks, Refuses, IsCertified, IsForged, HasFindings, RefusesText, places}
 use Rattle.sh_accept.specs.Computed.{Answer, Passes, Finds, Breaks, Tells, shown, in_order, of_findings, of_fault, of_certificate, of_fit, of_claims, of_count, of_profile, filled_to, computed, IsFilledBy, IsRead, is_refusal, is_told, HasOneAnswer}
-use Rattle.sh_accept.proofs.FilledLemmas.{tree_is, given_fit_is, given_is, filled_by}
+use Rattle.sh_accept.proofs.FilledLemmas.{tree_is, given_fit_is, filled_by, filled_given}
 use Rattle.sh_accept.proofs.FindingLemmas.{found_in_order}
 use Rattle.sh_accept.proofs.NumberingLemmas.{same_count}
 
@@ -120,7 +120,7 @@ module _ (b : List ℕ) (d : Declared) (t : Script) (names : List Text) (loops :
       numbered b d t names loops filled text read h.names h.admitted
       ∙ ap (behind_text b d t names loops filled text read) x.reads
       ∙ ap (λ k. of_fit k (of_certificate b d (script_of b t) (functions_in b t) (filled_to filled x.given))) fit
-      ∙ ap (of_certificate b d (script_of b t) (functions_in b t)) (given_is b d t names loops read text filled by h.names h.admitted.numbered.0 x.given c x.reads fit x.gives)
+      ∙ ap (of_certificate b d (script_of b t) (functions_in b t)) (filled_given b d t names loops read text filled c by h)
 
   -- the contents of the findings
   abbrev found : Sheet → List Contents

@@ -91,7 +91,7 @@ module _ (b : List ℕ) (d : Declared) (t : Script) (names : List Text) (loops :
   }
 
   -- what is given is the certificate, or filled to it
-  pub given_is : (text : Text) (filled : Sheet) → IsFilledBy b t names loops text filled → (ns : List Text) → IsNumbering b t d ns → (g : GivenSheet) (c : Sheet)
+  given_is : (text : Text) (filled : Sheet) → IsFilledBy b t names loops text filled → (ns : List Text) → IsNumbering b t d ns → (g : GivenSheet) (c : Sheet)
       → read_given text ≡ Ok g → given_fits names loops (length (functions_in b t)) g ≡ true → Gives b t ns g c → filled_to filled g ≡ c
   unfolding Gives given_fits filled_to
   given_is text filled by ns n (Full s) c r f e = e
@@ -106,3 +106,17 @@ module _ (b : List ℕ) (d : Declared) (t : Script) (names : List Text) (loops :
       go (Compact m) e is =
           let same : m ≡ k = cc in
           subst (λ x. FillsTo b t names x c) same (filled_renamed h.names h.admitted.numbered.0 (facts m.start) (stated_by (functions_in b t) m) c is)
+
+  -- what a certified text claims, filled
+  pub filled_given : (text : Text) (filled c : Sheet) → IsFilledBy b t names loops text filled → (h : IsCertified b d text t c) → filled_to filled h.claims.given ≡ c
+  filled_given text filled c by h =
+      let x = h.claims in
+      let n = h.admitted.numbered.0 in
+      given_is text filled by h.names n x.given c x.reads (given_fit_is h.names n x.fit.loops x.fit.are_loops x.given ∙ x.fit.fit) x.gives
+
+  -- a text claims one certificate
+  pub one_certified : (text : Text) (c e : Sheet) → IsCertified b d text t c → IsCertified b d text t e → c ≡ e
+  one_certified text c e h k =
+      let by = filled_by text c h in
+      let same : h.claims.given ≡ k.claims.given = one_given (read_given text) h.claims.given k.claims.given h.claims.reads k.claims.reads in
+      sym (filled_given text c c by h) ∙ ap (filled_to c) same ∙ filled_given text c e by k

@@ -24,3 +24,4 @@ pub mod StartLemmas
 pub mod InsideLemmas
 pub mod CodeLemmas
 pub mod OnceLemmas
+pub mod StaticLemmas

@@ -8,7 +8,7 @@ use Rattle.sh_tree.specs.declared.tree.Script.{Script}
 use Rattle.sh_tree.specs.standard.program.Syntax.{Text}
 use Rattle.sh_tree.specs.standard.program.Trees.{script_of}
 use Rattle.sh_table.specs.standard.runs.Environment.{is_one_of}
-use Rattle.sh_domain.specs.Admitted.{IsAdmitted, claims_in, functions_in}
+use Rattle.sh_domain.specs.Admitted.{IsAdmitted, IsGreatest, claims_in, functions_in}
 use Rattle.sh_domain.specs.CompactForms.{Full, Compact}
 use Rattle.sh_domain.specs.CompactReading.{given_fits}
 use Rattle.sh_domain.specs.Compacts.{CompactSheet, compact_of_sheet, compact_text, stated_by}
@@ -31,11 +31,12 @@ use Rattle.sh_answers.specs.declared.verdict.Finding.{Finding}
 use Rattle.sh_answers.specs.declared.verdict.Report.{Report}
 use Rattle.sh_answers.specs.declared.verdict.Verdict.TheVariants.{Pass, Fail}
 use Rattle.sh_accept.specs.Accepted.{FitsGiven, Gives, Claims, IsAccepted, IsAcceptedText}
-use Rattle.sh_accept.specs.Answers.{HasFindings, IsBest, IsStart, IsTextOf, Lints, Certifies, places}
+use Rattle.sh_accept.specs.Answers.{HasFindings, IsBest, IsCertified, IsStart, IsTextOf, Lints, Certifies, places}
 use Rattle.sh_accept.specs.Computed.{IsRead}
 use Rattle.sh_accept.specs.Passed.{LintedIsChecked}
+use Rattle.sh_accept.specs.Shown.{ShownIsGreatest}
 use Rattle.sh_accept.proofs.CompactLemmas.{and_all, compact_written, turns_fitting}
-use Rattle.sh_accept.proofs.FilledLemmas.{tree_is}
+use Rattle.sh_accept.proofs.FilledLemmas.{one_certified, tree_is}
 use Rattle.sh_accept.proofs.GreatestLemmas.{accepted, meets}
 use Rattle.sh_accept.proofs.JoinLemmas.{greatest_filled}
 use Rattle.sh_accept.proofs.OneGreatestLemmas.{as_many}
@@ -116,6 +117,9 @@ module _ (b : List ℕ) (d : Declared) (t : Script) (c : Sheet) (k : IsBest b d 
   text_claims true text is l = subst (λ x. length x ≤ MAX_CERTIFICATE → Claims b t k.names x c) (sym is) full_claims l
   text_claims false text is l = subst (λ x. length x ≤ MAX_CERTIFICATE → Claims b t k.names x c) (sym is.2) (compact_claims is.0 is.1) l
 
+  pub certified : (full : Bool) (text : Text) → IsTextOf full d c text → length text ≤ MAX_CERTIFICATE → IsCertified b d text t c
+  certified full text is l = record { names = k.names; admitted = k.admitted; claims = text_claims full text is l }
+
 best : (full : Bool) (b : List ℕ) (d : Declared) (t : Script) (c : Sheet) (text : Text) → IsBest b d t c → IsAccepted b d c → IsTextOf full d c text → length text ≤ MAX_CERTIFICATE
     → IsAcceptedText b d text
 best full b d t c text k a is l =
@@ -133,6 +137,10 @@ shown full b d v h k = best full b d k.0.tree k.0.certificate v.items k.0.best (
 found_there : (b : List ℕ) (d : Declared) (t u : Script) (c e : Sheet) (fs : List Finding) → u ≡ t → e ≡ c → AreFindings b (places b d u e) fs → AreFindings b (places b d t c) fs
 found_there b d t u c e fs p same h = subst (λ x. AreFindings b (places b d t x) fs) same (subst (λ v. AreFindings b (places b d v e) fs) p h)
 
+-- a script of which there is a greatest certificate is read
+is_read : (b : List ℕ) (d : Declared) (t : Script) (c : Sheet) (h : IsBest b d t c) → IsRead b d t h.names h.greatest.fit.loops
+is_read b d t c h = record { reading = h.admitted.reading; numbering = h.admitted.numbered.0; are_loops = h.greatest.fit.are_loops }
+
 failed : (full : Bool) (b : List ℕ) (d : Declared) (v : Vec ℕ Global) (r : Report) → Lints b d (Ok (Fail r)) → Certifies full b d (Ok v) → HasFindings b d v.items r.findings.items
 failed full b d v r h k =
     let t = k.0.tree in
@@ -140,17 +148,43 @@ failed full b d v r h k =
     let best = k.0.best in
     let names = best.names in
     let loops = best.greatest.fit.loops in
-    let read : IsRead b d t names loops = record { reading = best.admitted.reading; numbering = best.admitted.numbered.0; are_loops = best.greatest.fit.are_loops } in
+    let read = is_read b d t c best in
     let tree : h.tree ≡ t = tree_is b d t names loops read h.tree h.best.admitted.reading in
     let same : h.certificate ≡ c = one b d t names loops read h.certificate c (best_read b d t names loops read h.tree h.certificate h.best) best in
     record {
       tree = t;
       certificate = c;
-      certified = record { names = names; admitted = best.admitted; claims = text_claims b d t c best full v.items k.0.spelled k.1 };
+      certified = certified b d t c best full v.items k.0.spelled k.1;
       rules = best.greatest.rules;
       some = h.some;
       found = found_there b d t h.tree c h.certificate r.findings.items tree same h.found;
     }
+
+-- The shown text claims the greatest certificate alone
+
+filled : (b : List ℕ) (d : Declared) (t : Script) (names : List Text) (c : Sheet) (start : Claim)
+    → IsAdmitted b d t names → IsGreatest b d t names c → IsStart d start → FillsTo b t names (compact_of_sheet start c) c
+filled b d t names c start a g s = compact_filled b d t c (record { names = names; admitted = a; greatest = g }) start s
+
+only : (full : Bool) (b : List ℕ) (d : Declared) (v : Vec ℕ Global) (t : Script) (c : Sheet) → Certifies full b d (Ok v) → IsCertified b d v.items t c → IsBest b d t c
+only full b d v t c h k =
+    let u = h.0.tree in
+    let e = h.0.certificate in
+    let best = h.0.best in
+    let read = is_read b d u e best in
+    let names = best.names in
+    let loops = best.greatest.fit.loops in
+    let tree : t ≡ u = tree_is b d u names loops read t k.admitted.reading in
+    let same : c ≡ e =
+    one_certified b d u names loops read v.items c e (subst (λ x. IsCertified b d v.items x c) tree k) (certified b d u e best full v.items h.0.spelled h.1) in
+    subst (λ x. IsBest b d t x) (sym same) (subst (λ x. IsBest b d x e) (sym tree) best)
+
+pub shown_is_greatest : ShownIsGreatest
+shown_is_greatest = record {
+  filled = filled;
+  claimed = λ full b d v h. certified b d h.0.tree h.0.certificate h.0.best full v.items h.0.spelled h.1;
+  only = only;
+}
 
 pub linted_is_checked : LintedIsChecked
 linted_is_checked = record { best = best; shown = shown; failed = failed }

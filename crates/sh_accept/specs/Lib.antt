@@ -10,3 +10,5 @@ pub mod Passed
 pub mod Written
 pub mod Inside
 pub mod Once
+pub mod Shown
+pub mod Statics

@@ -6,7 +6,9 @@ ghost use Rattle.sh_accept.specs.Inside.{RefusalsStandInside};
 ghost use Rattle.sh_accept.specs.Once.{PlacesStandOnce};
 ghost use Rattle.sh_accept.specs.Parts.{PartsAlwaysAnswer};
 ghost use Rattle.sh_accept.specs.Passed.{LintedIsChecked};
+ghost use Rattle.sh_accept.specs.Shown.{ShownIsGreatest};
 ghost use Rattle.sh_accept.specs.Single.{HasOneGreatest};
+ghost use Rattle.sh_accept.specs.Statics.{StaticsAreTexts};
 ghost use Rattle.sh_accept.specs.Theorem.{Headline};
 ghost use Rattle.sh_accept.specs.Written.{TellsOneAnswer};
 
@@ -60,6 +62,12 @@ pub fn passed()
     ensures { LintedIsChecked }
 {}
 
+/// The text that is shown of a script claims its greatest certificate: whatever it claims is that
+/// one. The compact form of it, with what is known at the start, is filled to it.
+pub fn shown()
+    ensures { ShownIsGreatest }
+{}
+
 /// Take a script that is read, one action, one certificate's bytes and one policy. What may be
 /// written is one text with one exit status.
 pub fn written()
@@ -76,4 +84,10 @@ pub fn inside()
 /// expansion outside quotes. So no finding is in a report twice.
 pub fn once()
     ensures { PlacesStandOnce }
+{}
+
+/// What a call table keeps of the words of a simple command is what `sh_tree::static_text` reads off
+/// them (XCU 2.2).
+pub fn statics()
+    ensures { StaticsAreTexts }
 {}

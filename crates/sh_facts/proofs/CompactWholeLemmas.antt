@@ -1,6 +1,7 @@
 -- The whole text of a compact certificate, and whether it fits a script.
 use Rattle.std.proofs.Common.{◌≡◌, ℕ, suc, ◌+◌, ◌<◌, ◌≤◌, nat_eq, nat_le, Bool, true, false, ◌&&◌, List, [], ◌∷◌, length, map, Result, Ok, Err, refl, sym, ap, ap₂, ◌∙◌, arith}
 use Rattle.std.specs.List.{list_all}
+use Rattle.std.specs.Prelude.{IsErrOf, IsOk}
 use Rattle.std.proofs.lemmas.Bool.{and_parts}
 use Rattle.std.proofs.lemmas.Bool.Decides.{nat_tests}
 use Rattle.sh_tree.specs.declared.refusal.Refusal.{Refusal}
@@ -14,11 +15,11 @@ use Rattle.sh_domain.specs.declared.compact.Given.TheVariants as given
 use Rattle.sh_domain.specs.declared.limits.TheConstants.{MAX_CERTIFICATE}
 use Rattle.sh_domain.specs.Certificates.{in_byte_order, claim_of, function_claims, sheet_of}
 use Rattle.sh_domain.specs.CompactForms as form
-use Rattle.sh_domain.specs.CompactForms.{Counts, is_compact, is_compact_line, compact_counts_in, start_in, read_turns, read_compact_sheet, read_compact_text, read_given, given_as}
+use Rattle.sh_domain.specs.CompactForms.{Counts, GivenSheet, is_compact, is_compact_line, compact_counts_in, start_in, read_turns, read_compact_sheet, read_compact_text, read_given, given_as}
 use Rattle.sh_domain.specs.CompactReading.{loop_numbers, turns_fit, compact_fits, given_fits, given_claims, ReadsGiven}
 use Rattle.sh_domain.specs.Compacts.{CompactSheet, compact_claims, turns_of}
 use Rattle.sh_domain.specs.Facts.{Claim}
-use Rattle.sh_domain.specs.Forms.{read_line, read_lines, function_in}
+use Rattle.sh_domain.specs.Forms.{read_line, read_lines, read_text, function_in}
 use Rattle.sh_domain.specs.KeptRows.{KeptRows}
 use Rattle.sh_domain.specs.Reading.{AreLoops, Reads, claim_fits, functions_fit, function_fits}
 use Rattle.sh_domain.specs.Sheets.{FunctionClaims, function_fields}
@@ -244,6 +245,21 @@ missed t names loops functions P (CertSyntax a) i h = absurd h
 missed t names loops functions P CertShape i h = i h
 
 -- The answer of either version is that of the version that the first line gives
+
+as_given : {A : Type 0} (f : A → GivenSheet) (r : Result A ℕ) → IsOk r → IsOk (given_as f r)
+unfolding given_as
+as_given f (Ok x) h = refl
+as_given f (Err k) h = cc
+
+-- an error, whatever else could be answered
+pub same_error : (A B : Type 0) (x y : Refusal) → IsErrOf {T = A} (Err x) y → IsErrOf {T = B} (Err x) y
+same_error A B x y e = let same : x ≡ y = cc in ap Err same
+
+pub compact_is_read : (t : Text) → is_compact t ≡ true → IsOk (read_compact_text t) → IsOk (read_given t)
+compact_is_read t is h = rw is (as_given form.Compact (read_compact_text t) h)
+
+pub full_is_read : (t : Text) → is_compact t ≡ false → IsOk (read_text t) → IsOk (read_given t)
+full_is_read t is h = rw is (as_given form.Full (read_text t) h)
 
 module _ (t : Text) (script : Script) (names : List Text) (functions : ℕ) where
   pub compact_read : (c : Compact) → ReadsCompact t script functions names (Ok c) → ReadsGiven t script functions names (Ok (given.Compact c))

@@ -1,6 +1,7 @@
 -- The whole text of a certificate, and whether it fits a script.
 use Rattle.std.proofs.Common.{◌≡◌, ℕ, suc, ◌+◌, ◌<◌, ◌≤◌, nat_eq, nat_le, Bool, true, false, ◌&&◌, List, [], ◌∷◌, length, map, Option, Result, Ok, Err, refl, sym, ap, ap₂, ◌∙◌, arith}
 use Rattle.std.specs.List.{list_all}
+use Rattle.std.specs.Prelude.{IsOk}
 use Rattle.std.proofs.lemmas.Bool.{and_parts}
 use Rattle.std.proofs.lemmas.Bool.Decides.{nat_tests}
 use Rattle.sh_tree.specs.declared.refusal.Refusal.{Refusal}
@@ -53,6 +54,9 @@ faulty t k l e = short t l ∙ refused_so (read_sheet t) k (sym e)
 
 pub has_form : (t : Text) → length t ≤ MAX_CERTIFICATE → Ok (tt {0}) ≡ outcome (read_sheet t) → outcome (read_text t) ≡ Ok (tt {0})
 has_form t l e = ap outcome (short t l) ∙ sym e
+
+pub is_read : {A : Type 0} (r : Result A ℕ) → outcome r ≡ Ok (tt {0}) → IsOk r
+is_read r e = let s = has_sheet r e in rw s.1 refl
 
 -- The parts of a text that has the form
 

@@ -1,7 +1,7 @@
 //! Reading the text of a certificate of either version.
-ghost use Rattle.std.specs.Prelude.{◌≡◌, ℕ, ◌+◌, ◌≤◌, nat_eq, false, ◌∷◌, [], ◌++◌, length, map, None, Ok, OnOk, IfOk, IfErr};
+ghost use Rattle.std.specs.Prelude.{◌≡◌, ℕ, ◌+◌, ◌≤◌, nat_eq, false, ◌∷◌, [], ◌++◌, length, map, None, Ok, OnOk, IfOk, IfErr, IsErrOf, IsOk};
 ghost use Rattle.indexmap.specs.IndexMap.{get};
-ghost use Rattle.sh_domain.specs.CompactForms.{is_compact, read_compact_text};
+ghost use Rattle.sh_domain.specs.CompactForms.{is_compact, read_compact_text, read_given};
 ghost use Rattle.sh_domain.specs.CompactReading as fit;
 ghost use Rattle.sh_domain.specs.Reading.{loops_of};
 ghost use Rattle.sh_facts.specs.CompactParts as part;
@@ -26,7 +26,8 @@ use std::alloc::{AllocError, Global};
 /// `CertSyntax` with the number of the first line that has not the form, from 1, or with 0 if the
 /// text is longer than `MAX_CERTIFICATE`. `CertShape` if the text has the form and does not fit the
 /// script. Then it has other counts than the script's, or a name that is none of the names. Or it
-/// has a head at another command than a loop, or none at one. `Memory` if a growth was refused.
+/// has a head at another command than a loop, or none at one. `Memory` if a growth was refused,
+/// which requires a text that has the form.
 pub fn read_any(
     alloc: Global,
     text: &[u8],
@@ -35,6 +36,7 @@ pub fn read_any(
     names: &Names,
 ) -> Result<Given, Refusal>
     ensures reads { fit.ReadsGiven text.now tree.now (length table.now.functions.names) names.now result }
+    ensures memory { IsErrOf result Refusal.Memory → IsOk (read_given text.now) }
     ensures sized { IfOk result (λ g. (fit.given_rows g).count ≡ length names.now) }
 {
     if is_compact(text) {
@@ -53,6 +55,7 @@ fn read_compact(
     names: &Names,
 ) -> Result<Compact, Refusal>
     ensures reads { part.ReadsCompact text.now tree.now (length table.now.functions.names) names.now result }
+    ensures memory { IsErrOf result Refusal.Memory → IsOk (read_compact_text text.now) }
     ensures sized { IfOk result (λ c. c.rows.count ≡ length names.now) }
 {
     if text.len() > MAX_CERTIFICATE {

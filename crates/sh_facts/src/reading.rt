@@ -1,5 +1,5 @@
 //! Reading the text of a certificate.
-ghost use Rattle.std.specs.Prelude.{◌≡◌, ℕ, ◌+◌, ◌*◌, ◌<◌, ◌≤◌, ◌^◌, ◌||◌, nat_eq, true, false, [], length, map, option_map, None, Ok, OnOk, IfOk, IfErr};
+ghost use Rattle.std.specs.Prelude.{◌≡◌, ℕ, ◌+◌, ◌*◌, ◌<◌, ◌≤◌, ◌^◌, ◌||◌, nat_eq, true, false, [], length, map, option_map, None, Ok, OnOk, IfOk, IfErr, IsErrOf, IsOk};
 ghost use Rattle.indexmap.specs.IndexMap.{get};
 ghost use Rattle.sh_facts.specs.Fields as field;
 ghost use Rattle.sh_domain.specs.Forms as form;
@@ -27,7 +27,8 @@ use std::alloc::{AllocError, Global};
 /// `CertSyntax` with the number of the first line that has not the form, from 1, or with 0 if the
 /// text is longer than `MAX_CERTIFICATE`. `CertShape` if the text has the form and does not fit the
 /// script. Then it has other counts than the script's, or a name that is none of the names. Or it
-/// has a head at another command than a loop, or none at one. `Memory` if a growth was refused.
+/// has a head at another command than a loop, or none at one. `Memory` if a growth was refused,
+/// which requires a text that has the form.
 pub fn read_certificate(
     alloc: Global,
     text: &[u8],
@@ -36,6 +37,7 @@ pub fn read_certificate(
     names: &Names,
 ) -> Result<Certificate, Refusal>
     ensures reads { fit.Reads text.now tree.now (length table.now.functions.names) names.now result }
+    ensures memory { IsErrOf result Refusal.Memory → IsOk (form.read_text text.now) }
     ensures sized { IfOk result (λ c. c.rows.count ≡ length names.now) }
 {
     if text.len() > MAX_CERTIFICATE {

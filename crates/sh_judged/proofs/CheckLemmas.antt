@@ -1,5 +1,5 @@
 -- From what is reported of a certificate to what a check answers.
-use Rattle.std.proofs.Common.{◌≡◌, ℕ, true, List, ◌++◌, Result, Ok, Err, IfOk, sym, subst}
+use Rattle.std.proofs.Common.{◌≡◌, ◌<◌, ℕ, true, List, ◌++◌, length, length-append, Result, Ok, Err, IfErr, IfOk, sym, subst, arith}
 use Rattle.sh_tree.specs.declared.limits.TheConstants.{MAX_NESTING}
 use Rattle.sh_tree.specs.declared.refusal.Refusal.{Refusal}
 use Rattle.sh_tree.specs.declared.refusal.Refusal.TheVariants.{Memory}
@@ -14,8 +14,8 @@ use Rattle.sh_answers.specs.declared.verdict.Verdict.{Verdict}
 use Rattle.sh_answers.specs.declared.verdict.Verdict.TheVariants.{Pass, Fail, Forged}
 use Rattle.sh_accept.specs.Answers.{Checks, IsCertified, places}
 use Rattle.sh_accept.proofs.PartLemmas.{parts_always_answer}
-use Rattle.sh_judged.specs.Judged.{Judges}
-use Rattle.sh_checks.specs.Flows.{FindsPlaces, Flows}
+use Rattle.sh_judged.specs.Judged.{Judges, TellsSome}
+use Rattle.sh_checks.specs.Flows.{FindsPlaces, Flows, LeavesUnmet, unmet_in}
 use Rattle.sh_checks.specs.declared.flow.Flow.TheVariants.{Rule}
 use Rattle.sh_domain.specs.declared.rule.FlowRule.{FlowRule}
 use Rattle.sh_quote.specs.Places.{unquoted}
@@ -43,6 +43,15 @@ module _ (b : List ℕ) (d : Declared) where
       go Pass k = (h.0, k)
       go (Fail r) k = (h.0, k.0, k.1)
       go (Forged n f) k = absurd k
+
+  -- memory ran out over a place to report
+  pub some_told : {E : Type 0} (t : Script) (c : Sheet) (ps : List Place) (r : Result Verdict E) → FindsPlaces b d t c ps → IfErr r (λ _. 0 < length (ps ++ unquoted (script_of b t)))
+      → IfErr r (λ _. TellsSome b d t c)
+  some_told t c ps (Ok v) h k = tt
+  some_told t c ps (Err e) h k = (h.0, subst (λ qs. 0 < length (qs ++ unquoted (script_of b t))) h.1 k)
+
+  pub some_unmet : (t : Script) (c : Sheet) → LeavesUnmet b d t c → TellsSome b d t c
+  some_unmet t c h = (h.0, omega (arith, h.1, length-append (unmet_in b d t c) (unquoted (script_of b t))))
 
   answers : (text : Text) (t : Script) (c : Sheet) (v : Verdict) → IsCertified b d text t c → Judges b d t c v → Checks b d text (Ok v)
   answers text t c Pass h j = (parts_always_answer b d text).passes t c h j.0 j.1

@@ -17,3 +17,7 @@ abbrev pub Judges : List ℕ → Declared → Script → Sheet → Verdict → T
 Judges b d t c Pass = KeepsRules b d t c × (places b d t c ≡ [])
 Judges b d t c (Fail r) = KeepsRules b d t c × (0 < length r.findings.items) × AreFindings b (places b d t c) r.findings.items
 Judges b d t c (Forged k f) = least (faults (start_facts d) (claims_in b t c) (script_of b t)) ≡ Some (record { number = k; rule = f })
+
+-- no rule is broken, and there is a place to report
+abbrev pub TellsSome : List ℕ → Declared → Script → Sheet → Type 0
+TellsSome b d t c = KeepsRules b d t c × (0 < length (places b d t c))

@@ -1,5 +1,5 @@
 //! What is reported of places.
-ghost use Rattle.std.specs.Prelude.{◌<◌, ◌-◌, ◌^◌, length, IfOk};
+ghost use Rattle.std.specs.Prelude.{◌<◌, ◌-◌, ◌^◌, length, IfErr, IfOk};
 ghost use Rattle.sh_answers.specs.Findings.{AreFindings};
 ghost use Rattle.sh_judged.specs.Told.{TellsPlaces};
 
@@ -39,10 +39,11 @@ pub fn findings_at(
 ///
 /// # Errors
 ///
-/// `AllocError` if a growth was refused.
+/// `AllocError` if a growth was refused. That requires a place.
 pub fn verdict_of(alloc: Global, script: &[u8], places: &[Place]) -> Result<Verdict, AllocError>
     requires { length script.now < 2 ^ 32 - 1 }
-    ensures { IfOk result (TellsPlaces script.now places.now) }
+    ensures told { IfOk result (TellsPlaces script.now places.now) }
+    ensures memory { IfErr result (λ _. 0 < length places.now) }
 {
     match places {
         [] => Ok(Verdict::Pass),

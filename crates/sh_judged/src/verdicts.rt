@@ -1,9 +1,9 @@
 //! What is reported of a certificate: what the rules and the demands say of it.
-ghost use Rattle.std.specs.Prelude.{◌≡◌, ◌++◌, IfOk, length};
+ghost use Rattle.std.specs.Prelude.{◌≡◌, ◌++◌, ◌<◌, IfErr, IfOk, length};
 ghost use Rattle.sh_tree.specs.standard.program.Trees.{script_of};
 ghost use Rattle.sh_domain.specs.Facts.{Declared};
 ghost use Rattle.sh_quote.specs.Places.{unquoted};
-ghost use Rattle.sh_judged.specs.Judged.{Judges};
+ghost use Rattle.sh_judged.specs.Judged.{Judges, TellsSome};
 ghost use Rattle.sh_judged.specs.Prepared.{IsPrepared, sheet_in};
 ghost use Rattle.sh_judged.specs.Told.{TellsPlaces};
 
@@ -24,7 +24,8 @@ fn verdict_with(
     unmet: Vec<Place>,
 ) -> Result<Verdict, AllocError>
     requires { (d : Declared) × IsPrepared script.now d prepared.now }
-    ensures { IfOk result (TellsPlaces script.now (unmet.items ++ unquoted (script_of script.now prepared.now.tree))) }
+    ensures told { IfOk result (TellsPlaces script.now (unmet.items ++ unquoted (script_of script.now prepared.now.tree))) }
+    ensures memory { IfErr result (λ _. 0 < length (unmet.items ++ unquoted (script_of script.now prepared.now.tree))) }
 {
     let mut places = unmet;
     let mut unquoted = check_quotes(alloc, &prepared.tree, &prepared.table, script)?;
@@ -36,8 +37,9 @@ fn verdict_with(
 ///
 /// # Errors
 ///
-/// `AllocError` if a growth was refused.
-#[tactic(auto, using(crate::proofs::CheckLemmas::forges, crate::proofs::CheckLemmas::keeps))]
+/// `AllocError` if a growth was refused. That requires a certificate that keeps every flow rule,
+/// and a place to report.
+#[tactic(auto, using(crate::proofs::CheckLemmas::forges, crate::proofs::CheckLemmas::keeps, crate::proofs::CheckLemmas::some_told, crate::proofs::CheckLemmas::some_unmet))]
 pub fn judged(
     alloc: Global,
     script: &[u8],
@@ -47,7 +49,8 @@ pub fn judged(
 ) -> Result<Verdict, AllocError>
     requires prepared { IsPrepared script.now policy.now prepared.now }
     requires sized { certificate.now.rows.count ≡ length prepared.now.names }
-    ensures { IfOk result (Judges script.now policy.now prepared.now.tree (sheet_in prepared.now certificate.now)) }
+    ensures judges { IfOk result (Judges script.now policy.now prepared.now.tree (sheet_in prepared.now certificate.now)) }
+    ensures memory { IfErr result (λ _. TellsSome script.now policy.now prepared.now.tree (sheet_in prepared.now certificate.now)) }
 {
     let flow = check_flow(
         alloc,

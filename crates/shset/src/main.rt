@@ -2,24 +2,25 @@
 //! command line asks for, and ends with its status.
 #![tactic(auto)]
 
-ghost use Rattle.std.specs.Prelude.{◌≡◌, ℕ, List, [], IfOk};
+ghost use Rattle.std.specs.Prelude.{◌≡◌, IfOk, IsErrOf};
 ghost use Rattle.std.specs.Process.{exit_status};
 ghost use Rattle.sh_answers.specs.Ends.{HasRoom};
-ghost use Rattle.sh_accept.specs.Written.{Tells};
-ghost use Rattle.sh_report.specs.Promises.{EndsSafe};
-ghost use Rattle.sh_report.specs.Runs.{IsRead, IsTextRead, certificate_read, script_read};
 ghost use Rattle.shset.specs.Endings.{Ends, Offers, seen};
+ghost use Rattle.shset.specs.Sources.{Answers, PromisesSafe, bytes_of, certificate_bytes};
 
 mod ending;
+mod sources;
 
 use ending::{Ending, FAILED, Stream, UNWRITTEN, after_run, without_line, without_words};
-use sh_answers::{Counted, Fault, Outlet, write_all};
+use sh_answers::{Counted, Fault, Outlet, Task, write_all};
 use sh_line::{Line, Source, command_line};
 use sh_report::run;
+use sources::Sources;
+use std::alloc::Global;
+use std::env;
 use std::io::{self, Read};
 use std::process::ExitCode;
-use std::rt::{Env, Files};
-use std::{env, fs};
+use std::rt::Env;
 
 /// Prints on standard error, of which nothing can be reported if it refuses, and gives the status.
 fn end_with<E: Outlet>(error: &mut E, text: &str, status: u8) -> ExitCode
@@ -58,58 +59,78 @@ fn exit(rt: &HostRuntime, ending: Ending<'_>) -> ExitCode {
     end(&mut out, &mut error, ending)
 }
 
-fn run_over<R: Print + AllocGlobal, S: Read + Drop, C: Read + Drop>(
-    rt: &R,
-    line: &Line<'_>,
+/// Runs over a script and a certificate, and writes the answer.
+fn run_over<S: Read + Drop, C: Read + Drop, W: Outlet>(
+    alloc: Global,
+    task: &Task,
     script: S,
     certificate: C,
+    out: &mut W,
 ) -> Result<u8, Fault>
-    ensures answer { IfOk result (λ status. (b : List ℕ) × (t : List ℕ) × IsRead (S.remaining script) script_read b
-        × IsTextRead line.now.task.action (C.remaining certificate) certificate_read t × (text : List ℕ) × Tells line.now.task.action b t line.now.task.policy text status) }
-    ensures safe { IfOk result (λ status. (b : List ℕ) × IsRead (S.remaining script) script_read b × EndsSafe line.now.task b status) }
+    requires { HasRoom (W.tally out.old) }
+    ensures answer { IfOk result (Answers (S.remaining script) (C.remaining certificate) task.now (W.contents out.old) (W.contents out.new)) }
+    ensures safe { IfOk result (PromisesSafe (S.remaining script) task.now) }
+    ensures memory { IsErrOf result Fault.Memory → out.new ≡ out.old }
+    ensures read { IsErrOf result Fault.Read → out.new ≡ out.old }
 {
     let mut script = Counted::new(script);
     let mut certificate = Counted::new(certificate);
-    let mut out = Counted::new(io::writer(rt));
-    run(
-        rt.alloc(),
-        &line.task,
-        &mut script,
-        &mut certificate,
-        &mut out,
-    )
+    run(alloc, task, &mut script, &mut certificate, out)
 }
 
 /// Runs over a script and the certificate that the line names, if it names one.
-fn run_script<R: Files + Input + Print + AllocGlobal, S: Read + Drop>(
-    rt: &R,
+fn run_script<R: Sources, S: Read + Drop, W: Outlet>(
+    alloc: Global,
+    sources: &R,
     line: &Line<'_>,
     script: S,
+    out: &mut W,
 ) -> Result<u8, Fault>
-    ensures answer { IfOk result (λ status. (b : List ℕ) × (t : List ℕ) × IsRead (S.remaining script) script_read b × (text : List ℕ) × Tells line.now.task.action b t line.now.task.policy text status) }
-    ensures safe { IfOk result (λ status. (b : List ℕ) × IsRead (S.remaining script) script_read b × EndsSafe line.now.task b status) }
+    requires { HasRoom (W.tally out.old) }
+    ensures answer { IfOk result (Answers (S.remaining script) (certificate_bytes (R.input_bytes sources.now) (R.file_bytes sources.now) line.now.cert) line.now.task (W.contents out.old) (W.contents out.new)) }
+    ensures safe { IfOk result (PromisesSafe (S.remaining script) line.now.task) }
+    ensures memory { IsErrOf result Fault.Memory → out.new ≡ out.old }
+    ensures read { IsErrOf result Fault.Read → out.new ≡ out.old }
 {
     match line.cert {
-        None => run_over(rt, line, script, b"".as_slice()),
-        Some(Source::Input) => run_over(rt, line, script, rt.reader()),
-        Some(Source::File(name)) => match fs::open(rt, name) {
-            Ok(file) => run_over(rt, line, script, file),
+        None => run_over(alloc, &line.task, script, b"".as_slice(), out),
+        Some(Source::Input) => run_over(alloc, &line.task, script, sources.input(), out),
+        Some(Source::File(name)) => match sources.file(name) {
+            Ok(file) => run_over(alloc, &line.task, script, file, out),
             Err(_) => Err(Fault::Read),
         },
     }
 }
 
-/// Runs over the script that the line names.
-fn run_line<R: Files + Input + Print + AllocGlobal>(rt: &R, line: &Line<'_>) -> Result<u8, Fault>
-    ensures { IfOk result (λ status. (b : List ℕ) × (t : List ℕ) × (text : List ℕ) × Tells line.now.task.action b t line.now.task.policy text status) }
+/// Runs over the script and the certificate that the line names, and writes the answer. If a file
+/// cannot be opened, nothing is written.
+fn run_line<R: Sources, W: Outlet>(
+    alloc: Global,
+    sources: &R,
+    line: &Line<'_>,
+    out: &mut W,
+) -> Result<u8, Fault>
+    requires { HasRoom (W.tally out.old) }
+    ensures answer { IfOk result (Answers (bytes_of (R.input_bytes sources.now) (R.file_bytes sources.now) line.now.script)
+        (certificate_bytes (R.input_bytes sources.now) (R.file_bytes sources.now) line.now.cert) line.now.task (W.contents out.old) (W.contents out.new)) }
+    ensures safe { IfOk result (PromisesSafe (bytes_of (R.input_bytes sources.now) (R.file_bytes sources.now) line.now.script) line.now.task) }
+    ensures memory { IsErrOf result Fault.Memory → out.new ≡ out.old }
+    ensures read { IsErrOf result Fault.Read → out.new ≡ out.old }
 {
     match line.script {
-        Source::Input => run_script(rt, line, rt.reader()),
-        Source::File(name) => match fs::open(rt, name) {
-            Ok(file) => run_script(rt, line, file),
+        Source::Input => run_script(alloc, sources, line, sources.input(), out),
+        Source::File(name) => match sources.file(name) {
+            Ok(file) => run_script(alloc, sources, line, file, out),
             Err(_) => Err(Fault::Read),
         },
     }
+}
+
+/// Does what the line asks for, on standard output.
+fn run_here(rt: &HostRuntime, line: &Line<'_>) -> Result<u8, Fault> {
+    let stdout = rt.stdout();
+    let mut out = Counted::new(io::writer(&stdout));
+    run_line(rt.alloc(), rt, line, &mut out)
 }
 
 fn words_of(rt: &(impl Env + AllocGlobal)) -> io::Result<Vec<String>> {
@@ -122,7 +143,7 @@ fn main(rt: HostRuntime) -> ExitCode {
         Err(error) => return exit(&rt, without_words(error.kind())),
     };
     match command_line(rt.alloc(), words.as_slice()) {
-        Ok(line) => exit(&rt, after_run(run_line(&rt, &line))),
+        Ok(line) => exit(&rt, after_run(run_here(&rt, &line))),
         Err(stop) => exit(&rt, without_line(&stop)),
     }
 }

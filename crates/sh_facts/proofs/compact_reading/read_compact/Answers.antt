@@ -1,9 +1,11 @@
 use Rattle.std.proofs.Common.{◌≡◌, ℕ, length, sym, ap, ◌∙◌, subst, arith}
 use Rattle.std.proofs.lemmas.List.{length-map}
+use Rattle.sh_domain.specs.CompactForms.{read_compact_text}
 use Rattle.sh_domain.specs.Reading.{loops_of}
 use Rattle.sh_facts.specs.CompactParts.{ReadsCompact}
 use Rattle.sh_facts.specs.Fields.{outcome}
 use Rattle.sh_facts.proofs.CompactWholeLemmas.{too_long, faulty, has_form, for_script}
+use Rattle.sh_facts.proofs.WholeLemmas.{is_read}
 use Rattle.sh_facts.proofs.compact_reading.read_compact.Goals as goal
 
 pub returns-then-text-gt-MAX_CERTIFICATE-clause-reads : goal.returns-then-text-gt-MAX_CERTIFICATE-clause-reads
@@ -23,3 +25,11 @@ returns-clause-reads c =
     subst (λ (n : ℕ). ReadsCompact c.args.text.now c.args.tree.now n c.args.names.now c.read_lines.result) names_are
     (for_script c.args.text.now c.args.tree.now c.args.names.now (loops_of c.deref.result.now) (length c.functions.result.now) c.read_lines.result
     (record { commands = c.in_ok-commands.commands.items; all = c.in_ok-commands.ensures.same; ordered = c.in_ok-commands.ensures.ordered; each = ap loops_of c.deref.ensures.value }) c.read_lines.ensures.reads)
+
+pub returns-in_err-commands-clause-memory : goal.returns-in_err-commands-clause-memory
+unfolding outcome
+returns-in_err-commands-clause-memory c = λ e. is_read (read_compact_text c.args.text.now) (has_form c.args.text.now (omega (arith, c.if-text-gt-MAX_CERTIFICATE.false)) c.in_default.ensures)
+
+pub returns-clause-memory : goal.returns-clause-memory
+unfolding outcome
+returns-clause-memory c = λ e. is_read (read_compact_text c.args.text.now) (has_form c.args.text.now (omega (arith, c.if-text-gt-MAX_CERTIFICATE.false)) c.in_default.ensures)

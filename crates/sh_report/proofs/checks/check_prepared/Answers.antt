@@ -10,4 +10,4 @@ returns-in_err-certificate c =
 pub returns : goal.returns
 returns c =
     certifies c.args.script.now c.args.policy.now c.args.text.now c.args.prepared.now c.in_ok-certificate.certificate c.in_ok-verdict.verdict
-    c.in_ok-certificate.ensures.answers c.in_ok-verdict.ensures
+    c.in_ok-certificate.ensures.answers c.in_ok-verdict.ensures.judges
