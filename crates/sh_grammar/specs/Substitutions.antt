@@ -51,6 +51,7 @@ pub record TellsEnd (b : List ℕ) (style : CommandStyle) (i : ℕ) (s : State) 
   pub commands : Script
   pub one : One (SequenceFrom b s) (here end) commands
   pub stands : Stands b end
+  pub around : end.ticks ≡ s.ticks
   pub tells : TellsOpen b style i end e ⊎ TellsAcross b style end e
 
 -- What is reported of the substitution at i with the commands from s on: a refusal of these, or what

@@ -1,11 +1,11 @@
 //! Command substitutions (XCU 2.6.3).
-ghost use Rattle.std.specs.Prelude.{◌-◌, ◌≡◌, ◌<◌, ◌≤◌, IfErr, length, take};
+ghost use Rattle.std.specs.Prelude.{◌-◌, ◌≡◌, ◌<◌, ◌≤◌, IfErr, IfOk, length, take};
 ghost use Rattle.sh_grammar.specs.Faults.{IsFault, TellsAt, ended, stage_at};
 ghost use Rattle.sh_grammar.specs.Nests.{Nests};
 ghost use Rattle.sh_grammar.specs.States.{Lies, Stands, substituted};
 ghost use Rattle.sh_grammar.specs.Substitutions as substitution;
 ghost use Rattle.sh_grammar.specs.Substitutions.{ClosedFrom, Hands, IsLevel};
-ghost use Rattle.sh_grammar.specs.Readers.{Answers};
+ghost use Rattle.sh_grammar.specs.Readers.{Answers, SequenceFrom};
 ghost use Rattle.sh_tree.specs.declared.tree.CommandStyle.TheVariants.{Backquote};
 ghost use Rattle.sh_tree.specs.standard.language.Commands as tokens;
 ghost use Rattle.sh_tree.specs.standard.language.Substitutions as substitutions;
@@ -72,6 +72,20 @@ fn first_told(found: Result<(Script, Cursor), Refusal>, at: u32) -> Refusal
 }
 
 impl<F: Fn(Global, &[u8], Cursor) -> Result<(Script, Cursor), Refusal>> Grammar<F> {
+    /// The commands of a level, after which the same backquotes are around as before.
+    fn inside(&self, script: &[u8], from: Cursor) -> Result<(Script, Cursor), Refusal>
+        requires small { length script.now ≤ MAX_SCRIPT }
+        requires stands { Stands script.now from }
+        requires further { length script.now - from.at < self.now.left }
+        requires nests { Nests self.now.left (F.pre self.now.nested) (F.post self.now.nested) }
+        ensures reads { Answers script.now (SequenceFrom script.now from) from.at result }
+        ensures around { IfOk result (λ r. r.1.ticks ≡ from.ticks) }
+    {
+        let ticks = from.get().ticks;
+        let (commands, behind) = self.inner(script, from)?;
+        Ok((commands, behind.with_ticks(ticks)))
+    }
+
     /// The commands of the substitution at `start`, up to what closes it.
     #[tactic(auto, using(crate::proofs::SubstitutionLemmas::closed_refused, crate::proofs::SubstitutionLemmas::closed_open, crate::proofs::SubstitutionLemmas::closed_across, crate::proofs::FaultLemmas::first_in, crate::proofs::SubstitutionLemmas::closed_read, crate::proofs::ReaderLemmas::refused_none))]
     fn substitution(
@@ -90,7 +104,7 @@ impl<F: Fn(Global, &[u8], Cursor) -> Result<(Script, Cursor), Refusal>> Grammar<
         ensures reads { Answers script.now (ClosedFrom style script.now from) from.at result }
         ensures told { IfErr result (substitution.TellsClosed script.now style start from) }
     {
-        let (commands, behind) = self.inner(script, from)?;
+        let (commands, behind) = self.inside(script, from)?;
         if !closes_at(style, script, behind.at()) {
             return Err(unclosed_at(script, start, behind.get()));
         }

@@ -23,17 +23,17 @@ returns-clause-reads g c =
     let close = ap (closes style b) (sym c.at.ensures) ∙ sym c.closes_at.ensures.value ∙ c.if-not-closes_at.false in
     let none = c.in_default.ensures ∙ ap (λ (v : State). waiting None v.pending) c.get-2.ensures in
     let list : c.in_ok-list.list ≡ fill end.bodies found.commands = c.in_ok-list.ensures ∙ ap (λ ds. fill ds found.commands) c.ended-bodies.ensures.bodies in
-    let one = closed_read style b s c.requires.level end found.commands found.ensures.one close none in
+    let one = closed_read style b s c.requires.level end found.commands found.ensures.reads.one close none in
     subst (λ v. To b (ClosedFrom style b s) s.at c.in_ok-list.list v) (sym c.ended-bodies.ensures.level) (record {
       one = subst (λ t. One (ClosedFrom style b s) (here (record end { closed = false; bodies = [] })) t) (sym list) one;
-      from = found.ensures.from;
-      stands = ended_stands b end found.ensures.stands;
+      from = found.ensures.reads.from;
+      stands = ended_stands b end found.ensures.reads.stands;
     })
 
 pub returns-in_err-commands-clause-told : goal.returns-in_err-commands-clause-told
 returns-in_err-commands-clause-told g c =
-    let p = err_from_is_err_and c.from_residual-in_err-commands.result c.from_residual-in_err-commands.ensures.1 in
-    rw (p.1, p.2) (inl c.in_err-commands.ensures)
+    let p = err_from_is_err_and c.from_residual.result c.from_residual.ensures.1 in
+    rw (p.1, p.2) (inl c.in_err-commands.ensures.reads)
 
 pub returns-then-not-closes_at-clause-told : goal.returns-then-not-closes_at-clause-told
 returns-then-not-closes_at-clause-told g c =
@@ -45,8 +45,9 @@ returns-then-not-closes_at-clause-told g c =
     inr (record {
       end = found.behind;
       commands = found.commands;
-      one = found.ensures.one;
-      stands = found.ensures.stands;
+      one = found.ensures.reads.one;
+      stands = found.ensures.reads.stands;
+      around = found.ensures.around;
       tells = inl (record {
         open_here = ap (closes style b) (sym c.at.ensures) ∙ sym c.closes_at.ensures.value ∙ c.if-not-closes_at.true;
         at_end = λ is. subst (λ (v : State). e ≡ ended b v fault.OpenSubstitution c.args.start) same (c.unclosed_at.ensures.open (ap (λ (v : State). v.at) same ∙ is));
@@ -62,8 +63,9 @@ returns-in-Some-clause-told g c =
     inr (record {
       end = found.behind;
       commands = found.commands;
-      one = found.ensures.one;
-      stands = found.ensures.stands;
+      one = found.ensures.reads.one;
+      stands = found.ensures.reads.stands;
+      around = found.ensures.around;
       tells = inr (record {
         closed_here = ap (closes style b) (sym c.at.ensures) ∙ sym c.closes_at.ensures.value ∙ c.if-not-closes_at.false;
         at = c.in-Some.at;
