@@ -17,7 +17,7 @@ use Rattle.sh_bodies.specs.Fill.{document_of, fill}
 use Rattle.sh_bodies.proofs.ReadingLemmas.{bodies}
 use Rattle.sh_grammar.specs.declared.state.State.{State}
 use Rattle.sh_grammar.specs.States.{here, first_of, Stands, waiting}
-use Rattle.sh_grammar.specs.Faults.{IsFault, TellsAt, Misplaced, TellsBehind, TellsMisplaced, TellsPending, TellsWaiting, stage_at}
+use Rattle.sh_grammar.specs.Faults.{IsFault, TellsAt, Misplaced, TellsBehind, TellsLimit, TellsMisplaced, TellsPending, TellsWaiting, stage_at}
 use Rattle.sh_grammar.specs.Readers.{One, Refused, SequenceFrom, unread}
 use Rattle.sh_grammar.proofs.BodyLemmas.{level_of, sequence_with}
 use Rattle.sh_grammar.proofs.FaultLemmas.{first_in, first_inside, tells_inside}
@@ -198,3 +198,15 @@ module _ (b : List ℕ) where
   pub nul_is_closed : (at : ℕ) → first_nul b ≡ Some at → IsText b → TellsPending b (Err (NulByte at))
   unfolding is_some
   nul_is_closed at is text = absurd (apart is_some (sym is ∙ text.1) refl refl)
+
+  -- What is reported of the limits
+
+  pub limit_refused : (e : Refusal) → Refused b (SequenceFrom b (first_of b)) e → TellsLimit b (Err e)
+  limit_refused (TooDeep at) h = λ count t q. let s = sequence_of b MAX_NESTING count t q in h.1 s.end s.tree s.reads
+  limit_refused TooMany h = λ limit count t q. let s = sequence_of b limit count t q in subst (λ n. MAX_COMMANDS < n) s.counted (h limit s.end s.tree s.reads)
+  limit_refused _ h = tt
+
+  pub fault_unlimited : (e : Refusal) → IsFault b e → TellsLimit b (Err e)
+  fault_unlimited (Syntax f at) is = tt
+  fault_unlimited (LeftOut f at) is = tt
+  fault_unlimited _ is = absurd is

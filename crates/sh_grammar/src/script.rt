@@ -1,7 +1,7 @@
 //! Scripts (XCU 2.10).
 ghost use Rattle.std.specs.Prelude.{◌≡◌, ◌≤◌, length};
 ghost use Rattle.sh_tree.specs.Answers.{IsText, Parses};
-ghost use Rattle.sh_grammar.specs.Faults.{TellsMisplaced, TellsPending};
+ghost use Rattle.sh_grammar.specs.Faults.{TellsLimit, TellsMisplaced, TellsPending};
 ghost use Rattle.sh_grammar.specs.States.{Stands, first_of};
 ghost use Rattle.sh_grammar.specs.Readers.{Answers, SequenceFrom};
 
@@ -51,12 +51,13 @@ fn first_state(alloc: Global, script: &[u8]) -> State
 }
 
 /// The script that a text is. The text is no longer than it may be and has no NUL byte.
-#[tactic(auto, using(crate::proofs::ScriptLemmas::text_read, crate::proofs::ScriptLemmas::text_unended, crate::proofs::ScriptLemmas::text_waits, crate::proofs::ScriptLemmas::text_refused, crate::proofs::ScriptLemmas::none_behind, crate::proofs::ScriptLemmas::told_behind, crate::proofs::ScriptLemmas::refused_behind_none, crate::proofs::ScriptLemmas::pending_before, crate::proofs::ScriptLemmas::refused_pending_none))]
+#[tactic(auto, using(crate::proofs::ScriptLemmas::text_read, crate::proofs::ScriptLemmas::text_unended, crate::proofs::ScriptLemmas::text_waits, crate::proofs::ScriptLemmas::text_refused, crate::proofs::ScriptLemmas::none_behind, crate::proofs::ScriptLemmas::told_behind, crate::proofs::ScriptLemmas::refused_behind_none, crate::proofs::ScriptLemmas::pending_before, crate::proofs::ScriptLemmas::refused_pending_none, crate::proofs::ScriptLemmas::limit_refused, crate::proofs::ScriptLemmas::fault_unlimited))]
 fn read(alloc: Global, script: &[u8]) -> Result<Script, Refusal>
     requires { IsText script.now }
     ensures reads { Parses script.now result }
     ensures behind { TellsMisplaced script.now result }
     ensures open { TellsPending script.now result }
+    ensures limits { TellsLimit script.now result }
 {
     let first = Cursor::new(alloc, first_state(alloc, script))?;
     let (found, end) = sequence_at(alloc, script, first)?;
@@ -83,6 +84,7 @@ pub fn parse(alloc: Global, script: &[u8]) -> Result<Script, Refusal>
     ensures reads { Parses script.now result }
     ensures behind { IsText script.now → TellsMisplaced script.now result }
     ensures open { IsText script.now → TellsPending script.now result }
+    ensures limits { TellsLimit script.now result }
 {
     if script.len() > MAX_SCRIPT {
         return Err(Refusal::TooLong);
