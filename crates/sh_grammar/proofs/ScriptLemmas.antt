@@ -17,10 +17,10 @@ use Rattle.sh_bodies.specs.Fill.{document_of, fill}
 use Rattle.sh_bodies.proofs.ReadingLemmas.{bodies}
 use Rattle.sh_grammar.specs.declared.state.State.{State}
 use Rattle.sh_grammar.specs.States.{here, first_of, Stands, waiting}
-use Rattle.sh_grammar.specs.Faults.{IsFault, TellsAt, Misplaced, TellsBehind, TellsMisplaced, stage_at}
+use Rattle.sh_grammar.specs.Faults.{IsFault, TellsAt, Misplaced, TellsBehind, TellsLimit, TellsMisplaced, TellsPending, TellsWaiting, stage_at}
 use Rattle.sh_grammar.specs.Readers.{One, Refused, SequenceFrom, unread}
 use Rattle.sh_grammar.proofs.BodyLemmas.{level_of, sequence_with}
-use Rattle.sh_grammar.proofs.FaultLemmas.{first_inside, tells_inside}
+use Rattle.sh_grammar.proofs.FaultLemmas.{first_in, first_inside, tells_inside}
 use Rattle.sh_grammar.proofs.ItemLemmas.{inside_lead}
 use Rattle.sh_grammar.proofs.SubstitutionLemmas.{filled_once, filled_reads, none_waits, some_wait}
 use Rattle.sh_grammar.proofs.BreakLemmas.{blanks_settle}
@@ -148,6 +148,32 @@ module _ (b : List ℕ) where
         go (LeftOut f at) is m = m
         go _ is m = absurd is
 
+    -- the text goes on
+    pub pending_before : v.at < length b → (r : Result Script Refusal) → TellsPending b r
+    pending_before inside r body u s l over wait =
+        let same : u.spot.at ≡ v.at = ap (λ w. w.spot.at) (ends_at body u s l) in
+        absurd (omega arith)
+
+    -- no here-document waits
+    pub pending_none : None ≡ waiting None v.pending → (r : Result Script Refusal) → TellsPending b r
+    pending_none none r body u s l over wait =
+        absurd (true≢false (sym wait ∙ ap (λ (w : states.State). waits w.pending) (ends_at body u s l) ∙ none_waits v.pending none))
+
+    -- one does
+    pub pending_told : (at : ℕ) → Some at ≡ waiting None v.pending → Stands b v → TellsPending b (Err (Syntax fault.OpenHereDoc at))
+    pending_told at some stands body u s l over wait = (at, refl, subst (λ n. at < n) (sym over) (first_in b v at some stands))
+
+  pub refused_pending_none : (e : Refusal) → Refused b (SequenceFrom b (first_of b)) e → TellsPending b (Err e)
+  refused_pending_none e h body u s l over wait = let f = sequence_with unread l in go e h f.0 f.1
+    where
+      go : (e : Refusal) → Refused b (SequenceFrom b (first_of b)) e → (t : Script) → SequenceFrom b (first_of b) MAX_NESTING u t → TellsWaiting u (Err e)
+      go (Syntax f at) h t l = absurd (h.1 MAX_NESTING u t l)
+      go (LeftOut f at) h t l = absurd (h.1 MAX_NESTING u t l)
+      go (TooDeep at) h t l = absurd (h.1 u t l)
+      go TooMany h t l = h MAX_NESTING u t l
+      go Memory h t l = tt
+      go _ h t l = absurd h
+
   pub refused_behind_none : (e : Refusal) → Refused b (SequenceFrom b (first_of b)) e → TellsMisplaced b (Err e)
   refused_behind_none e h body u s l inside = let f = sequence_with unread l in go e h f.0 f.1
     where
@@ -165,3 +191,22 @@ module _ (b : List ℕ) where
   pub nul_is_none : (at : ℕ) → first_nul b ≡ Some at → IsText b → TellsMisplaced b (Err (NulByte at))
   unfolding is_some
   nul_is_none at is text = absurd (apart is_some (sym is ∙ text.1) refl refl)
+
+  pub long_is_closed : MAX_SCRIPT < length b → IsText b → TellsPending b (Err TooLong)
+  long_is_closed long text = let short = text.0 in absurd (omega arith)
+
+  pub nul_is_closed : (at : ℕ) → first_nul b ≡ Some at → IsText b → TellsPending b (Err (NulByte at))
+  unfolding is_some
+  nul_is_closed at is text = absurd (apart is_some (sym is ∙ text.1) refl refl)
+
+  -- What is reported of the limits
+
+  pub limit_refused : (e : Refusal) → Refused b (SequenceFrom b (first_of b)) e → TellsLimit b (Err e)
+  limit_refused (TooDeep at) h = λ count t q. let s = sequence_of b MAX_NESTING count t q in h.1 s.end s.tree s.reads
+  limit_refused TooMany h = λ limit count t q. let s = sequence_of b limit count t q in subst (λ n. MAX_COMMANDS < n) s.counted (h limit s.end s.tree s.reads)
+  limit_refused _ h = tt
+
+  pub fault_unlimited : (e : Refusal) → IsFault b e → TellsLimit b (Err e)
+  fault_unlimited (Syntax f at) is = tt
+  fault_unlimited (LeftOut f at) is = tt
+  fault_unlimited _ is = absurd is

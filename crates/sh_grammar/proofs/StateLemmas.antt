@@ -3,6 +3,8 @@ use Rattle.std.proofs.Common.{ℕ, ◌≤◌, Bool, false, List, [], ◌∷◌, 
 use Rattle.sh_tree.specs.declared.limits.TheConstants.{MAX_NESTING}
 use Rattle.sh_grammar.specs.declared.mark.Mark.{Mark}
 use Rattle.sh_grammar.specs.declared.state.State.{State}
+use Rattle.sh_grammar.specs.declared.ticks.Ticks.{Ticks}
+use Rattle.sh_grammar.specs.Readers.{Reading, To}
 use Rattle.sh_grammar.specs.States.{AreBefore, IsBefore, Lies, Stands}
 
 -- what is before a place is before a later one
@@ -33,4 +35,12 @@ lies_at b i s after inside h = record {
   shallow = h.shallow;
   around = before_later s.at i s.outer after h.around;
   behind = are_later s.at i s.pending after h.behind;
+}
+
+-- what is read does not depend on the backquotes around
+pub ticks_to : {A : Type 0} (b : List ℕ) (R : Reading A) (least : ℕ) (x : A) (v : State) (ticks : Ticks) → To b R least x v → To b R least x (record v { ticks = ticks })
+ticks_to b R least x v ticks h = record {
+  one = h.one;
+  from = h.from;
+  stands = record { inside = h.stands.inside; settled = h.stands.settled; few = h.stands.few; shallow = h.stands.shallow; around = h.stands.around; behind = h.stands.behind };
 }

@@ -1,5 +1,5 @@
 -- Command substitutions: the commands and the parenthesis after them.
-use Rattle.std.proofs.Common.{◌≡◌, ℕ, zero, suc, ◌+◌, ◌-◌, ◌<◌, ◌≤◌, Bool, true, false, not, cond, List, [], ◌∷◌, length, map, take, drop, Option, Some, None, Result, Ok, Err, refl, sym, ap, subst, ◌∙◌, ⊎_elim, le_refl, le_trans, lt_of_lt_of_le, length-drop, length-take, take_all, arith}
+use Rattle.std.proofs.Common.{◌≡◌, ℕ, zero, suc, ◌+◌, ◌-◌, ◌<◌, ◌≤◌, Bool, true, false, not, cond, List, [], ◌∷◌, length, map, take, drop, Option, Some, None, Result, Ok, Err, IfErr, refl, sym, ap, subst, ◌∙◌, ⊎_elim, le_refl, le_trans, lt_of_lt_of_le, not-le_of_lt, length-drop, length-take, take_all, arith}
 use Rattle.std.proofs.lemmas.Bool.{true≢false, cases_Bool, cond-true, cond-false}
 use Rattle.std.proofs.lemmas.List.{drop-drop}
 use Rattle.std.proofs.lemmas.List.Sums.{take_while-cons}
@@ -17,6 +17,7 @@ use Rattle.sh_tree.specs.standard.language.Reading.{ReadsSequence}
 use Rattle.sh_tree.specs.standard.language.States as states
 use Rattle.sh_tree.specs.standard.language.States.{Spot, document_count, nth, waits, within}
 use Rattle.sh_tree.specs.standard.language.Substitutions.{backquote_end, closes, commands_text, has_kept_backslash, keeps_backslashes, no_backquote}
+use Rattle.sh_scan.specs.Backquotes.{IsFirstKept}
 use Rattle.sh_words.proofs.EndLemmas.{closes_inside}
 use Rattle.sh_words.proofs.OperationLemmas.{closed_inside}
 use Rattle.sh_bodies.specs.declared.Document.{Document}
@@ -25,10 +26,12 @@ use Rattle.sh_bodies.proofs.ReadingLemmas.{bodies, sequence_from}
 use Rattle.sh_grammar.specs.declared.mark.Mark.{Mark}
 use Rattle.sh_grammar.specs.declared.state.State.{State}
 use Rattle.sh_grammar.specs.declared.ticks.Ticks.{Ticks}
+use Rattle.sh_grammar.specs.declared.ticks.Ticks.TheVariants.{Here}
 use Rattle.sh_grammar.specs.Marks.{mark_of}
 use Rattle.sh_grammar.specs.States.{AreBefore, IsBefore, Lies, here, substituted, Stands, waiting}
 use Rattle.sh_grammar.specs.Readers.{Answers, One, Nothing, Reading, Refused, SequenceFrom, unread}
-use Rattle.sh_grammar.specs.Substitutions.{AskedFrom, ClosedFrom, Hands, IsLevel, first_told, is_told_before}
+use Rattle.sh_grammar.specs.Substitutions.{AnswersLevel, AskedFrom, ClosedFrom, Hands, IsLevel, TellsBackquoted, TellsClosed, TellsHanded, first_told, is_told_before, opened}
+use Rattle.sh_grammar.specs.Ticks.{deeper}
 use Rattle.sh_grammar.proofs.BodyLemmas.{Level, level_of, sequence_with}
 use Rattle.sh_grammar.proofs.BreakLemmas.{blanks_settle}
 use Rattle.sh_grammar.proofs.ReaderLemmas.{refused_by, refused_in}
@@ -235,3 +238,35 @@ module _ (b : List ℕ) (quoted : Bool) (i n : ℕ) (ticks : Ticks) (s : State) 
         go : (t : Bool) → Refused b (AskedFrom b Backquote quoted i n s) (cond t e (LeftOut form.BackslashInBackquotes at))
         go true = front_refused e h
         go false = (inside, kept_nothing some)
+
+-- What is reported of them
+
+told_by : {A : Type 0} {P Q : Refusal → Type 0} (r : Result A Refusal) → IfErr r P → ((e : Refusal) → P e → Q e) → IfErr r Q
+told_by (Ok x) h f = tt
+told_by (Err e) h f = f e h
+
+module _ (b : List ℕ) (quoted : Bool) (i n : ℕ) (s : State) (r : Result (Script × State) Refusal) where
+  pub paren_told : IfErr r (TellsClosed b Paren (opened Paren i) (substituted b i n (deeper s.ticks) s)) → IfErr r (TellsHanded b Paren quoted i n s)
+  paren_told h = told_by r h (λ e t. t)
+
+  -- no backquote closes them
+  pub open_told : length b < backquote_end b i → IfErr r (TellsClosed b Backquote (opened Backquote i) (substituted b i n s.ticks s)) → IfErr r (TellsHanded b Backquote quoted i n s)
+  open_told none h = told_by r h (λ e t. (λ far. t, λ near. absurd (not-le_of_lt none near)))
+
+  -- the backquote that ends at `end` does
+  pub closed_told : (end : ℕ) → end ≡ backquote_end b i → end ≤ length b → IfErr r (TellsBackquoted (take end b) quoted i n s) → IfErr r (TellsHanded b Backquote quoted i n s)
+  closed_told end is within h =
+      told_by r h (λ e t. (λ far. absurd (not-le_of_lt far (subst (λ k. k ≤ length b) is within)), λ near. subst (λ k. TellsBackquoted (take k b) quoted i n s e) is t))
+
+  -- no backslash goes before they are read, in the text that ends with what closes them
+  pub plain_told : has_kept_backslash quoted (drop i b) ≡ false → IfErr r (TellsClosed b Backquote (opened Backquote i) (substituted b i n (Here quoted) s))
+      → IfErr r (TellsBackquoted b quoted i n s)
+  plain_told none h = told_by r h (λ e t. record { plain = λ _. t; kept = λ some. absurd (true≢false (sym some ∙ none)) })
+
+  -- one does
+  pub kept_told : (k : ℕ) → has_kept_backslash quoted (drop i b) ≡ true → IsFirstKept quoted (drop i b) k → AnswersLevel b Backquote i n (Here quoted) s r
+      → TellsBackquoted b quoted i n s (first_told r (i + k))
+  kept_told k some first h = record {
+    plain = λ none. absurd (true≢false (sym some ∙ none));
+    kept = λ _. record { further = k; first = first; found = r; answers = h; is = refl };
+  }

@@ -7,7 +7,7 @@ use Rattle.sh_tree.specs.declared.refusal.Fault.TheVariants as fault
 use Rattle.sh_tree.specs.declared.refusal.Form.{Form}
 use Rattle.sh_tree.specs.declared.refusal.Form.TheVariants as form
 use Rattle.sh_tree.specs.declared.refusal.Refusal.{Refusal}
-use Rattle.sh_tree.specs.declared.refusal.Refusal.TheVariants.{Syntax, LeftOut, TooMany, Memory}
+use Rattle.sh_tree.specs.declared.refusal.Refusal.TheVariants.{Syntax, LeftOut, TooDeep, TooMany, Memory}
 use Rattle.sh_tree.specs.declared.token.command.Stage.{Stage}
 use Rattle.sh_tree.specs.declared.token.command.Stage.TheVariants.{First, Prefixed}
 use Rattle.sh_tree.specs.declared.token.command.Lead.{Lead}
@@ -15,9 +15,9 @@ use Rattle.sh_tree.specs.declared.token.command.Lead.TheVariants as lead
 use Rattle.sh_tree.specs.declared.tree.Script.{Script}
 use Rattle.sh_tree.specs.standard.language.Commands.{lead_at}
 use Rattle.sh_tree.specs.standard.language.HereDocuments.{is_split_text}
-use Rattle.sh_tree.specs.standard.language.Reading.{ReadsSequence}
+use Rattle.sh_tree.specs.standard.language.Reading.{ReadsSequence, ReadsTo}
 use Rattle.sh_tree.specs.standard.language.States as states
-use Rattle.sh_tree.specs.standard.language.States.{Document}
+use Rattle.sh_tree.specs.standard.language.States.{Document, waits}
 use Rattle.sh_grammar.specs.declared.mark.Mark.{Mark}
 use Rattle.sh_grammar.specs.declared.state.State.{State}
 use Rattle.sh_grammar.specs.Lines.{is_joined}
@@ -93,3 +93,25 @@ TellsBehind b v (Err e) = Misplaced b v.spot.at e
 abbrev pub TellsMisplaced : List ℕ → Result Script Refusal → Type 0
 TellsMisplaced b r =
     (body : ℕ → Document) (v : states.State) (t : Script) → ReadsSequence MAX_NESTING b body (here (first_of b)) v t → v.spot.at < length b → TellsBehind b v r
+
+-- What is reported if a sequence is read up to v, at the end of the text, and a here-document waits
+-- there for its body: that it is open. One command too many is reported instead, if there are that
+-- many.
+abbrev pub TellsWaiting : states.State → Result Script Refusal → Type 0
+TellsWaiting v (Ok t) = ⊥
+TellsWaiting v (Err Memory) = Unit {0}
+TellsWaiting v (Err TooMany) = MAX_COMMANDS < v.spot.count
+TellsWaiting v (Err e) = (at : ℕ) × (e ≡ Syntax fault.OpenHereDoc at) × (at < v.spot.at)
+
+-- the same of each sequence that is the text
+abbrev pub TellsPending : List ℕ → Result Script Refusal → Type 0
+TellsPending b r =
+    (body : ℕ → Document) (v : states.State) (t : Script) → ReadsSequence MAX_NESTING b body (here (first_of b)) v t → v.spot.at ≡ length b → waits v.pending ≡ true
+    → TellsWaiting v r
+
+-- If a level too many is reported, nothing is read within the limit of nesting, however many
+-- commands it has. If a command too many is, whatever is read has too many, however deep it nests.
+abbrev pub TellsLimit : List ℕ → Result Script Refusal → Type 0
+TellsLimit b (Err (TooDeep at)) = (count : ℕ) (t : Script) → ReadsTo b MAX_NESTING count t → ⊥
+TellsLimit b (Err TooMany) = (limit count : ℕ) (t : Script) → ReadsTo b limit count t → MAX_COMMANDS < count
+TellsLimit b _ = Unit {0}

@@ -1,5 +1,5 @@
 //! Newlines between commands (XCU 2.10).
-ghost use Rattle.std.specs.Prelude.{◌-◌, ◌≡◌, ◌≤◌, ◌<◌, length};
+ghost use Rattle.std.specs.Prelude.{◌-◌, ◌≡◌, ◌≤◌, ◌<◌, Err, IfSome, length};
 ghost use Rattle.sh_tree.specs.standard.language.Commands as commands;
 ghost use Rattle.sh_tree.specs.standard.language.Reading as reading;
 ghost use Rattle.sh_tree.specs.declared.token.command.Stage.TheVariants.{First};
@@ -45,7 +45,8 @@ impl<F: Fn(Global, &[u8], Cursor) -> Result<(Script, Cursor), Refusal>> Grammar<
         requires further { length script.now - from.at ≤ self.now.left }
         requires nests { Nests self.now.left (F.pre self.now.nested) (F.post self.now.nested) }
         requires inside { from.at < length script.now }
-        ensures { Line script.now from result }
+        ensures line { Line script.now from result }
+        ensures across { IfSome from.outer (λ at. result ≡ Err (Refusal.LeftOut Form.HereAcross at)) }
     {
         if let Some(at) = from.get().outer {
             return Err(Refusal::LeftOut(Form::HereAcross, at));

@@ -1,7 +1,7 @@
 //! The words after the operators of here-documents (XCU 2.7.4).
-ghost use Rattle.std.specs.Prelude.{◌≡◌, ◌<◌, length, IfOk, option_map};
+ghost use Rattle.std.specs.Prelude.{◌≡◌, ◌<◌, length, IfErr, IfOk, option_map};
 ghost use Rattle.std.specs.List.{list_any};
-ghost use Rattle.sh_grammar.specs.Delimiters.{Awaits, delimiter_in};
+ghost use Rattle.sh_grammar.specs.Delimiters.{Awaits, TellsDelimiter, delimiter_in};
 ghost use Rattle.sh_tree.specs.standard.language.HereDocuments as documents;
 ghost use Rattle.sh_tree.specs.standard.language.Parts as parts;
 ghost use Rattle.sh_tree.specs.standard.language.States.{no_document};
@@ -72,7 +72,8 @@ pub fn mark_at(
     depth: u8,
 ) -> Result<Mark, Refusal>
     requires begins { word.now.span.start < length script.now }
-    ensures { Awaits script.now at strip word.now depth result }
+    ensures marks { Awaits script.now at strip word.now depth result }
+    ensures told { IfErr result (TellsDelimiter word.now) }
 {
     let delimiter = delimiter_of(alloc, script, word)?;
     match delimiter {

@@ -4,7 +4,7 @@ ghost use Rattle.sh_tree.specs.standard.language.Commands as commands;
 ghost use Rattle.sh_grammar.specs.Nests.{Nests};
 ghost use Rattle.sh_grammar.specs.States.{Stands};
 ghost use Rattle.sh_grammar.specs.Readers.{Answers, RedirectFrom, RedirectsFrom};
-ghost use Rattle.sh_grammar.specs.Targets.{TargetFrom};
+ghost use Rattle.sh_grammar.specs.Targets.{IsMarked, TargetFrom};
 
 use super::delimiters::{awaited, mark_at};
 use super::grammar::Grammar;
@@ -90,7 +90,8 @@ impl<F: Fn(Global, &[u8], Cursor) -> Result<(Script, Cursor), Refusal>> Grammar<
         requires within { front.end ≤ length script.now }
         requires further { length script.now - from.at ≤ self.now.left }
         requires nests { Nests self.now.left (F.pre self.now.nested) (F.post self.now.nested) }
-        ensures { Answers script.now (RedirectFrom script.now from) (from.at + 1) result }
+        ensures reads { Answers script.now (RedirectFrom script.now from) (from.at + 1) result }
+        ensures marked { IfOk result (λ r. IsMarked front.at r.1.pending) }
     {
         let depth = from.depth();
         let (word, behind) = self.target(script, front.end, from)?;

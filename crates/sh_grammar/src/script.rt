@@ -1,7 +1,7 @@
 //! Scripts (XCU 2.10).
 ghost use Rattle.std.specs.Prelude.{◌≡◌, ◌≤◌, length};
 ghost use Rattle.sh_tree.specs.Answers.{IsText, Parses};
-ghost use Rattle.sh_grammar.specs.Faults.{TellsMisplaced};
+ghost use Rattle.sh_grammar.specs.Faults.{TellsLimit, TellsMisplaced, TellsPending};
 ghost use Rattle.sh_grammar.specs.States.{Stands, first_of};
 ghost use Rattle.sh_grammar.specs.Readers.{Answers, SequenceFrom};
 
@@ -51,11 +51,13 @@ fn first_state(alloc: Global, script: &[u8]) -> State
 }
 
 /// The script that a text is. The text is no longer than it may be and has no NUL byte.
-#[tactic(auto, using(crate::proofs::ScriptLemmas::text_read, crate::proofs::ScriptLemmas::text_unended, crate::proofs::ScriptLemmas::text_waits, crate::proofs::ScriptLemmas::text_refused, crate::proofs::ScriptLemmas::none_behind, crate::proofs::ScriptLemmas::told_behind, crate::proofs::ScriptLemmas::refused_behind_none))]
+#[tactic(auto, using(crate::proofs::ScriptLemmas::text_read, crate::proofs::ScriptLemmas::text_unended, crate::proofs::ScriptLemmas::text_waits, crate::proofs::ScriptLemmas::text_refused, crate::proofs::ScriptLemmas::none_behind, crate::proofs::ScriptLemmas::told_behind, crate::proofs::ScriptLemmas::refused_behind_none, crate::proofs::ScriptLemmas::pending_before, crate::proofs::ScriptLemmas::refused_pending_none, crate::proofs::ScriptLemmas::limit_refused, crate::proofs::ScriptLemmas::fault_unlimited))]
 fn read(alloc: Global, script: &[u8]) -> Result<Script, Refusal>
     requires { IsText script.now }
     ensures reads { Parses script.now result }
     ensures behind { TellsMisplaced script.now result }
+    ensures open { TellsPending script.now result }
+    ensures limits { TellsLimit script.now result }
 {
     let first = Cursor::new(alloc, first_state(alloc, script))?;
     let (found, end) = sequence_at(alloc, script, first)?;
@@ -77,10 +79,12 @@ fn read(alloc: Global, script: &[u8]) -> Result<Script, Refusal>
 /// then one in reading from the front. That is `Syntax` at what the grammar has no place for, or
 /// `LeftOut` at the first byte of a refused form. Or it is `TooDeep` at what would be one level
 /// more than there may be, or `TooMany` at one command more. `Memory` if a growth was refused.
-#[tactic(auto, using(crate::proofs::Nul::no_nul, crate::proofs::Nul::nul_at, crate::proofs::ScriptLemmas::long_is_none, crate::proofs::ScriptLemmas::nul_is_none))]
+#[tactic(auto, using(crate::proofs::Nul::no_nul, crate::proofs::Nul::nul_at, crate::proofs::ScriptLemmas::long_is_none, crate::proofs::ScriptLemmas::nul_is_none, crate::proofs::ScriptLemmas::long_is_closed, crate::proofs::ScriptLemmas::nul_is_closed))]
 pub fn parse(alloc: Global, script: &[u8]) -> Result<Script, Refusal>
     ensures reads { Parses script.now result }
     ensures behind { IsText script.now → TellsMisplaced script.now result }
+    ensures open { IsText script.now → TellsPending script.now result }
+    ensures limits { TellsLimit script.now result }
 {
     if script.len() > MAX_SCRIPT {
         return Err(Refusal::TooLong);

@@ -315,6 +315,15 @@ impl Cursor {
         behind
     }
 
+    /// With these backquotes around.
+    pub fn with_ticks(self, ticks: Ticks) -> Cursor
+        ensures { result ≡ record self { ticks = ticks } }
+    {
+        let mut behind = self;
+        behind.state.ticks = ticks;
+        behind
+    }
+
     /// One level deeper.
     pub fn lower(self) -> Cursor
         requires shallow { self.depth < MAX_NESTING }

@@ -1,11 +1,11 @@
 //! Command substitutions (XCU 2.6.3).
-ghost use Rattle.std.specs.Prelude.{◌-◌, ◌≡◌, ◌<◌, ◌≤◌, length};
+ghost use Rattle.std.specs.Prelude.{◌-◌, ◌≡◌, ◌<◌, ◌≤◌, IfErr, IfOk, length, take};
 ghost use Rattle.sh_grammar.specs.Faults.{IsFault, TellsAt, ended, stage_at};
 ghost use Rattle.sh_grammar.specs.Nests.{Nests};
 ghost use Rattle.sh_grammar.specs.States.{Lies, Stands, substituted};
 ghost use Rattle.sh_grammar.specs.Substitutions as substitution;
 ghost use Rattle.sh_grammar.specs.Substitutions.{ClosedFrom, Hands, IsLevel};
-ghost use Rattle.sh_grammar.specs.Readers.{Answers};
+ghost use Rattle.sh_grammar.specs.Readers.{Answers, SequenceFrom};
 ghost use Rattle.sh_tree.specs.declared.tree.CommandStyle.TheVariants.{Backquote};
 ghost use Rattle.sh_tree.specs.standard.language.Commands as tokens;
 ghost use Rattle.sh_tree.specs.standard.language.Substitutions as substitutions;
@@ -72,6 +72,20 @@ fn first_told(found: Result<(Script, Cursor), Refusal>, at: u32) -> Refusal
 }
 
 impl<F: Fn(Global, &[u8], Cursor) -> Result<(Script, Cursor), Refusal>> Grammar<F> {
+    /// The commands of a level, after which the same backquotes are around as before.
+    fn inside(&self, script: &[u8], from: Cursor) -> Result<(Script, Cursor), Refusal>
+        requires small { length script.now ≤ MAX_SCRIPT }
+        requires stands { Stands script.now from }
+        requires further { length script.now - from.at < self.now.left }
+        requires nests { Nests self.now.left (F.pre self.now.nested) (F.post self.now.nested) }
+        ensures reads { Answers script.now (SequenceFrom script.now from) from.at result }
+        ensures around { IfOk result (λ r. r.1.ticks ≡ from.ticks) }
+    {
+        let ticks = from.get().ticks;
+        let (commands, behind) = self.inner(script, from)?;
+        Ok((commands, behind.with_ticks(ticks)))
+    }
+
     /// The commands of the substitution at `start`, up to what closes it.
     #[tactic(auto, using(crate::proofs::SubstitutionLemmas::closed_refused, crate::proofs::SubstitutionLemmas::closed_open, crate::proofs::SubstitutionLemmas::closed_across, crate::proofs::FaultLemmas::first_in, crate::proofs::SubstitutionLemmas::closed_read, crate::proofs::ReaderLemmas::refused_none))]
     fn substitution(
@@ -87,9 +101,10 @@ impl<F: Fn(Global, &[u8], Cursor) -> Result<(Script, Cursor), Refusal>> Grammar<
         requires begins { start ≤ length script.now }
         requires further { length script.now - from.at < self.now.left }
         requires nests { Nests self.now.left (F.pre self.now.nested) (F.post self.now.nested) }
-        ensures { Answers script.now (ClosedFrom style script.now from) from.at result }
+        ensures reads { Answers script.now (ClosedFrom style script.now from) from.at result }
+        ensures told { IfErr result (substitution.TellsClosed script.now style start from) }
     {
-        let (commands, behind) = self.inner(script, from)?;
+        let (commands, behind) = self.inside(script, from)?;
         if !closes_at(style, script, behind.at()) {
             return Err(unclosed_at(script, start, behind.get()));
         }
@@ -120,7 +135,8 @@ impl<F: Fn(Global, &[u8], Cursor) -> Result<(Script, Cursor), Refusal>> Grammar<
         requires shallow { depth ≤ MAX_NESTING }
         requires further { length text.now - at < self.now.left }
         requires nests { Nests self.now.left (F.pre self.now.nested) (F.post self.now.nested) }
-        ensures { Answers text.now (ClosedFrom style text.now (substituted text.now at depth ticks around.now)) at result }
+        ensures reads { Answers text.now (ClosedFrom style text.now (substituted text.now at depth ticks around.now)) at result }
+        ensures told { IfErr result (substitution.TellsClosed text.now style (substitution.opened style at) (substituted text.now at depth ticks around.now)) }
     {
         let first = around.within(self.alloc, text, at, depth, ticks);
         let from = Cursor::new(self.alloc, first)?;
@@ -147,7 +163,8 @@ impl<F: Fn(Global, &[u8], Cursor) -> Result<(Script, Cursor), Refusal>> Grammar<
         requires shallow { depth ≤ MAX_NESTING }
         requires further { length script.now - at < self.now.left }
         requires nests { Nests self.now.left (F.pre self.now.nested) (F.post self.now.nested) }
-        ensures { Hands script.now Backquote quoted at depth around.now result }
+        ensures hands { Hands script.now Backquote quoted at depth around.now result }
+        ensures told { IfErr result (substitution.TellsBackquoted (take end script.now) quoted at depth around.now) }
     {
         let text = &script[..end as usize];
         let found = self.level(
@@ -167,7 +184,7 @@ impl<F: Fn(Global, &[u8], Cursor) -> Result<(Script, Cursor), Refusal>> Grammar<
     /// The commands of a substitution of the style in a word. They begin at or after `at`, with so
     /// many levels open. `quoted` says whether it is in double quotes. By that, more backslashes
     /// between backquotes are refused.
-    #[tactic(auto, using(crate::proofs::SubstitutionLemmas::paren_hands, crate::proofs::SubstitutionLemmas::open_hands))]
+    #[tactic(auto, using(crate::proofs::SubstitutionLemmas::paren_hands, crate::proofs::SubstitutionLemmas::open_hands, crate::proofs::SubstitutionLemmas::paren_told, crate::proofs::SubstitutionLemmas::closed_told, crate::proofs::SubstitutionLemmas::open_told))]
     pub fn commands_at(
         &self,
         script: &[u8],
@@ -184,7 +201,8 @@ impl<F: Fn(Global, &[u8], Cursor) -> Result<(Script, Cursor), Refusal>> Grammar<
         requires shallow { depth ≤ MAX_NESTING }
         requires further { length script.now - at < self.now.left }
         requires nests { Nests self.now.left (F.pre self.now.nested) (F.post self.now.nested) }
-        ensures { Hands script.now style quoted at depth around.now result }
+        ensures hands { Hands script.now style quoted at depth around.now result }
+        ensures told { IfErr result (substitution.TellsHanded script.now style quoted at depth around.now) }
     {
         let ticks = around.ticks;
         match style {

@@ -7,7 +7,7 @@ pub loop-next-preserved : goal.loop-next-preserved
 loop-next-preserved g c =
     let at = c.loop-next in
     let line = sym (c.is_newline.ensures ∙ ap is_newline_lead c.lead.ensures.value) ∙ c.loop-next-test.true in
-    let to = c.in_ok-next.ensures in
+    let to = c.in_ok-next.ensures.line in
     let from = at.invariant.from in
     let after = to.from in
     record {

@@ -44,7 +44,7 @@ returns-in_err-commands-in-Inner g c =
     let residual = c.from_residual-in_err-commands-in-Inner in
     let p = err_from_is_err_and residual.result residual.ensures.1 in
     rw (p.1, p.2) (inner_refused b c.args.mode c.requires.whole c.args.at c.args.from at.last w d new asked.0 n.at n.depth n.style n.quoted asked.2 _
-    (subst (λ s. Refused b (AskedFrom b n.style n.quoted n.at n.depth s) c.in_err-commands-in-Inner.field-0.0) c.get-here.ensures c.in_err-commands-in-Inner.ensures))
+    (subst (λ s. Refused b (AskedFrom b n.style n.quoted n.at n.depth s) c.in_err-commands-in-Inner.field-0.0) c.get-here.ensures c.in_err-commands-in-Inner.ensures.hands))
 
 pub loop-last-smaller : goal.loop-last-smaller
 loop-last-smaller g c =
@@ -59,7 +59,7 @@ loop-last-smaller g c =
     let asked = subst (λ x. Answers text (Left text w) new x) n.is (c.in_ok-word.ensures.runs d.goes) in
     fed_moves b c.args.mode c.requires.whole c.args.at c.args.from at.last w d new asked.0 n.at n.depth n.style n.quoted asked.2 asked.1
     (subst (λ x. RunMoves text w new (Ok x)) n.is c.in_ok-word.ensures.moves) c.resume.new.self found.commands found.end
-    (subst (λ s. Handed b n.style n.quoted n.at n.depth s found.commands found.end) c.get-here.ensures found.ensures)
+    (subst (λ s. Handed b n.style n.quoted n.at n.depth s found.commands found.end) c.get-here.ensures found.ensures.hands)
     (λ start style waits goes. c.in_ok-resume-in-Inner.ensures.gives start style waits goes ∙ ap (λ i. fed new start style found.commands (i + 1)) c.at.ensures)
 
 pub loop-last-preserved : goal.loop-last-preserved
@@ -77,7 +77,7 @@ loop-last-preserved g c =
       driven = subst (λ v. Driven b c.args.mode c.args.at c.args.from c.resume.new.self v) (sym (c.counting-last.ensures ∙ ap (λ k. record at.last { count = k }) c.count.ensures))
           (driven_fed b c.args.mode c.requires.whole c.args.at c.args.from at.last w d new asked.0 n.at n.depth n.style n.quoted asked.2 asked.1
           (subst (λ x. RunMoves text w new (Ok x)) n.is c.in_ok-word.ensures.moves) c.resume.new.self found.commands found.end
-          (subst (λ s. Handed b n.style n.quoted n.at n.depth s found.commands found.end) c.get-here.ensures found.ensures)
+          (subst (λ s. Handed b n.style n.quoted n.at n.depth s found.commands found.end) c.get-here.ensures found.ensures.hands)
           (λ start style waits goes. c.in_ok-resume-in-Inner.ensures.gives start style waits goes ∙ ap (λ i. fed new start style found.commands (i + 1)) c.at.ensures)
           (λ x inside. c.in_ok-resume-in-Inner.ensures.sound x (subst (λ i. i + 1 ≤ length x) (sym c.at.ensures) inside)));
     }
