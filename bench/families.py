@@ -96,6 +96,16 @@ def shift_beside(line):
     return made
 
 
+def late_calls(size):
+    """Functions in a chain of any order. Their calls are reached only once another function returns."""
+    count = count_of(size, "f1000() { h; unset v1000; a && f1000; }\nv1000=;b && f1000", MOST_NAMES // 2)
+    path = list(range(count))
+    random.Random(1).shuffle(path)
+    following = dict(zip(path, path[1:] + path[-1:]))
+    lines = [f"f{n}() {{ h; unset v{n}; a && f{following[n]}; }}" for n in range(count)]
+    return text_of(["h() { a || ( m ); }", *lines, "m() {", "".join(f"v{n}=;" for n in range(count)), *(f"b && f{n}" for n in range(count)), "}", "h"])
+
+
 def shift_floors(size):
     """Each branch lowers the parameters to fewer than the one before."""
     line = 'a && { shift; : "${60000?}"; continue; }'
@@ -546,11 +556,15 @@ FAMILIES = {
     "shift stages": (shift_stages, ALL_PARAMETERS),
     "shift waves": (shift_waves, ALL_PARAMETERS),
     **{f"shift and {name}": (shift_beside(line), ALL_PARAMETERS) for name, line in BESIDE.items()},
+    "shift over processes": (of("while :; do shift; ( set --\n", each("a&"), "); done\n"), ALL_PARAMETERS),
+    "shift over pipelines": (of("while :; do shift; ( set --\n", each("a|b;"), "); done\n"), ALL_PARAMETERS),
+    "shift by recursion": (of("f() { shift; ( set --\n", each("a&"), '); f "$@"; }\nf "$@"\n'), ALL_PARAMETERS),
     **{f"shift round {name}": (of(start, each('echo "$vN"\n'), end), ALL_PARAMETERS) for name, (start, end) in ROUND.items()},
     "chain": (chain("in order"), ()),
     "chain back": (chain("reversed"), ()),
     "chain shuffled": (chain("shuffled"), ()),
     "chain of facts": (chain_of_facts, ()),
+    "late calls": (late_calls, ()),
     "in a group": (in_group, ()),
     "in functions": (functions_in_functions, ()),
     "deep functions": (deep_functions, ()),

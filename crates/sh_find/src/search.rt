@@ -14,7 +14,7 @@ ghost use Rattle.sh_drafts.specs.Turns.{sheet_by};
 ghost use Rattle.sh_drafts.specs.Working.{IsWorking};
 
 use indexmap::IndexMap;
-use sh_domain::{Certificate, Compact, Facts, Names, Policy, Rows};
+use sh_domain::{Certificate, Compact, Facts, Names, Policy, Rows, is_loop};
 use sh_drafts::{
     Draft, Subject, Target, Writable, patience_after, rest_after, room_after, rounds_after,
     tires_after, unreached,
@@ -38,7 +38,18 @@ pub enum Way {
     Once,
 }
 
-// Solves the counts apart, if they fell often, or a loop was left while they fell.
+// Has all loops wait, since sweeps may have left them while counts fell.
+fn wake_loops(subject: &Subject<'_>, waiting: &mut Waiting) -> Result<(), AllocError> {
+    for command in subject.commands {
+        if is_loop(command) {
+            waiting.wait(command.number)?;
+        }
+    }
+    Ok(())
+}
+
+// Solves the counts apart, if they fell often, or a loop was left while they fell. The commands at
+// which one was lowered wait, and all loops.
 fn rest_counts(subject: &Subject<'_>, draft: &mut Draft) -> Result<(), AllocError>
     requires { IsReady subject.now draft.old.certificate draft.old.probe.count }
     ensures { IfOk result (λ unit. IsSwept subject.now draft.old.certificate draft.new.certificate draft.new.probe.count) }
@@ -47,8 +58,19 @@ fn rest_counts(subject: &Subject<'_>, draft: &mut Draft) -> Result<(), AllocErro
         solve_counts(subject, draft)?;
         draft.rest = rest_after(draft.counted, subject.commands.len());
         draft.tires = tires_after(draft.looks, subject.commands.len());
+        wake_loops(subject, &mut draft.waiting)?;
     }
     Ok(())
+}
+
+// Has all commands wait, if what is known was carried over some.
+fn wake_passed(draft: &mut Draft)
+    ensures certificate { draft.new.certificate ≡ draft.old.certificate }
+    ensures probe { draft.new.probe ≡ draft.old.probe }
+{
+    if draft.carries() {
+        draft.waiting.wait_all();
+    }
 }
 
 // Sweeps over the commands that wait. If that lowers the certificate often, it solves the counts
@@ -67,7 +89,7 @@ fn sweep_by_need(subject: &Subject<'_>, draft: &mut Draft) -> Result<(), AllocEr
             return Ok(());
         }
         rest_counts(subject, draft)?;
-        draft.waiting.wait_all();
+        wake_passed(draft);
     }
     Ok(())
 }

@@ -111,6 +111,23 @@ fn with_args(names: &Names, args: u16) -> Sight
     }
 }
 
+// Has the command of a place wait, if the count there was lowered.
+fn note_solved(
+    subject: &Subject<'_>,
+    draft: &mut Draft,
+    place: Place,
+    is_lowered: bool,
+) -> Result<(), AllocError>
+    ensures certificate { draft.new.certificate ≡ draft.old.certificate }
+    ensures probe { draft.new.probe ≡ draft.old.probe }
+{
+    note_place(subject, draft, place, None, is_lowered)?;
+    if is_lowered && !place.part.is_of_function() {
+        draft.waiting.wait(place.index as u32 + 1)?;
+    }
+    Ok(())
+}
+
 // Lowers the count at a place.
 fn lower_count(
     subject: &Subject<'_>,
@@ -132,7 +149,7 @@ fn lower_count(
         place,
         &known,
     )?;
-    note_place(subject, draft, place, None, is_lowered)?;
+    note_solved(subject, draft, place, is_lowered)?;
     Ok(())
 }
 

@@ -11,4 +11,4 @@ returns c =
     (lowered_swept c.args.subject.now c.args.draft.now.certificate c.lower.new.certificate c.args.place _ _ c.args.draft.now.probe.count _ c.requires.ready c.in_ok-is_lowered.ensures.lowered
     c.in_ok-is_lowered.ensures.working (λ other keeps slot placed. c.with_args-known.ensures.over _ (keeps.fit _) (c.requires.over other keeps slot placed))
     (λ e. absurd (true≢false (sym e ∙ c.requires.free))) c.in_ok-is_lowered.ensures.probed)
-    c.note_place.ensures.certificate (ap (λ p. p.count) c.note_place.ensures.probe)
+    c.note_solved.ensures.certificate (ap (λ p. p.count) c.note_solved.ensures.probe)
