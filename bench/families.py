@@ -96,16 +96,6 @@ def shift_beside(line):
     return made
 
 
-def late_calls(size):
-    """Functions in a chain of any order. Their calls are reached only once another function returns."""
-    count = count_of(size, "f1000() { h; unset v1000; a && f1000; }\nv1000=;b && f1000", MOST_NAMES // 2)
-    path = list(range(count))
-    random.Random(1).shuffle(path)
-    following = dict(zip(path, path[1:] + path[-1:]))
-    lines = [f"f{n}() {{ h; unset v{n}; a && f{following[n]}; }}" for n in range(count)]
-    return text_of(["h() { a || ( m ); }", *lines, "m() {", "".join(f"v{n}=;" for n in range(count)), *(f"b && f{n}" for n in range(count)), "}", "h"])
-
-
 def shift_floors(size):
     """Each branch lowers the parameters to fewer than the one before."""
     line = 'a && { shift; : "${60000?}"; continue; }'
@@ -564,7 +554,6 @@ FAMILIES = {
     "chain back": (chain("reversed"), ()),
     "chain shuffled": (chain("shuffled"), ()),
     "chain of facts": (chain_of_facts, ()),
-    "late calls": (late_calls, ()),
     "in a group": (in_group, ()),
     "in functions": (functions_in_functions, ()),
     "deep functions": (deep_functions, ()),
