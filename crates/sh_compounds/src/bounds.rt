@@ -14,7 +14,7 @@ ghost use Rattle.sh_rules.specs.Walked.{trail};
 ghost use Rattle.sh_rules.specs.Walks.{behind_in, facts_in, setting};
 
 use sh_domain::{FlowRule, Knowledge};
-use sh_rules::{Asked, Behind, Claims, Fault, Place, gain_variable, gain_word, met, script_behind};
+use sh_rules::{Asked, Behind, Claims, Fault, Place, gain_variable, gain_word, meet};
 use sh_tree::{
     Branch, Clause, ClauseEnd, Command, Items, Kind, LoopKind, Part, Script, Span, Word,
 };
@@ -85,7 +85,8 @@ fn tell_otherwise<A: Asked>(
     let fault = Fault { number, rule };
     match otherwise {
         Some(list) => {
-            let behind = script_behind(claims, known, list);
+            let mut behind = Behind::nowhere();
+            behind.pass_script(claims, known, list);
             tell_leaves(claims, fault, &behind, asked);
         }
         None => asked.bound(claims, Place::Zero(number), fault, known),
@@ -117,7 +118,8 @@ fn tell_group<A: Asked>(
     ensures { A.kept asked.new ≡ bounds.leaves_told A.asked (setting claims.now) (bounds.fault number F10) (tells.script_left (setting claims.now) (facts_in (setting claims.now) known.now) list.now) (A.kept asked.old) }
 {
     let rule = FlowRule::F10;
-    let behind = script_behind(claims, known, list);
+    let mut behind = Behind::nowhere();
+    behind.pass_script(claims, known, list);
     tell_leaves(claims, Fault { number, rule }, &behind, asked);
 }
 
@@ -125,12 +127,9 @@ fn tell_subshell<A: Asked>(claims: &Claims<'_>, number: u32, asked: &mut A)
     ensures { A.kept asked.new ≡ bounds.leaves_told A.asked (setting claims.now) (bounds.fault number F11) (both (known_at (setting claims.now) (Before number))) (A.kept asked.old) }
 {
     let rule = FlowRule::F11;
-    tell_both(
-        claims,
-        Fault { number, rule },
-        &claims.before(number),
-        asked,
-    );
+    let mut known = Knowledge::NotReached;
+    claims.before_into(number, &mut known);
+    tell_both(claims, Fault { number, rule }, &known, asked);
 }
 
 // The head of a loop is entered from before it and from the end of each turn.
@@ -241,8 +240,10 @@ fn go_through<A: Asked>(
 )
     ensures { trail (facts_in (setting claims.now) fallen.new) (A.kept asked.new) ≡ tells.clause_left A.asked (setting claims.now) number (facts_in (setting claims.now) behind.now) (trail (facts_in (setting claims.now) fallen.old) (A.kept asked.old)) is_last clause.now }
 {
-    let seen = met(behind, &*fallen);
-    let left = script_behind(claims, &seen, &clause.body);
+    let mut seen = *behind;
+    meet(&mut seen, &*fallen);
+    let mut left = Behind::nowhere();
+    left.pass_script(claims, &seen, &clause.body);
     tell_clause(claims, number, is_last, &left, asked);
     *fallen = left.falling(clause.end);
 }
@@ -329,13 +330,11 @@ fn tell_returns<A: Asked>(claims: &Claims<'_>, name: &[u8], body: u32, asked: &m
     let number = body;
     let rule = FlowRule::F13;
     let fault = Fault { number, rule };
-    asked.bound(claims, Place::ReturnZero(name), fault, &claims.zero(body));
-    asked.bound(
-        claims,
-        Place::ReturnNonzero(name),
-        fault,
-        &claims.nonzero(body),
-    );
+    let mut known = Knowledge::NotReached;
+    claims.zero_into(body, &mut known);
+    asked.bound(claims, Place::ReturnZero(name), fault, &known);
+    claims.nonzero_into(body, &mut known);
+    asked.bound(claims, Place::ReturnNonzero(name), fault, &known);
 }
 
 // What is known after a definition.
@@ -356,7 +355,8 @@ fn tell_define<A: Asked>(
     ensures { A.kept asked.new ≡ tells.define_left A.asked (setting claims.now) number name.now body.now (A.kept asked.old) }
 {
     let rule = FlowRule::F13;
-    let mut behind = claims.before(number);
+    let mut behind = Knowledge::NotReached;
+    claims.before_into(number, &mut behind);
     define(claims, name, &mut behind);
     asked.bound(claims, Place::Zero(number), Fault { number, rule }, &behind);
     tell_returns(claims, name, body.number, asked);
@@ -417,12 +417,9 @@ pub fn tell_redirects<A: Asked>(
 {
     if is_redirected {
         let rule = FlowRule::F10;
-        let before = claims.before(number);
-        asked.bound(
-            claims,
-            Place::Nonzero(number),
-            Fault { number, rule },
-            &before,
-        );
+        let fault = Fault { number, rule };
+        let mut known = Knowledge::NotReached;
+        claims.before_into(number, &mut known);
+        asked.bound(claims, Place::Nonzero(number), fault, &known);
     }
 }

@@ -19,7 +19,7 @@ ghost use Rattle.sh_rules.specs.Walks.{facts_in, setting};
 
 use sh_domain::{FlowRule, Knowledge};
 use sh_operands::unset_operands;
-use sh_rules::elements::behind;
+use sh_rules::elements::behind_into;
 use sh_rules::{Asked, Claims, Fault};
 use sh_table::{Kind, WordText, kind_of};
 use sh_tree::{Element, KnownName, is_name};
@@ -28,7 +28,8 @@ use sh_tree::{Element, KnownName, is_name};
 fn is_reached(claims: &Claims<'_>, number: u32) -> bool
     ensures { result ≡ spec.is_reached (setting claims.now) number }
 {
-    let known = claims.before(number);
+    let mut known = Knowledge::NotReached;
+    claims.before_into(number, &mut known);
     known.is_reached()
 }
 
@@ -367,7 +368,8 @@ fn tell_call<A: Asked>(
 {
     tell_callee(claims, number, function, callee, asked);
     tell_builtin(claims, number, function, callee, asked);
-    let known = behind(claims, number, elements);
+    let mut known = Knowledge::NotReached;
+    behind_into(claims, number, elements, &mut known);
     tell_prefixes(claims, number, function, elements, &known, asked);
 }
 

@@ -194,7 +194,7 @@ fn judge_part(part: &Part, script: &[u8], known: &mut Known<'_>, reports: &mut R
         Part::Arith(_, expression) => {
             judge_expanded(expression.get(), script, known, reports);
             want_reads(expression.get(), script, &*known, reports);
-            gain_assigned(expression.get(), script, known);
+            gain_assigned(expression.get(), script, known.names, &mut known.knowledge);
         }
         Part::Tilde(span) => judge_tilde(*span, script, &*known, reports),
         Part::Plain(_) => (),
@@ -236,9 +236,15 @@ fn judge_operator(
         }
         ParameterOperator::Use { action, word, .. } => {
             let mut inside = *known;
-            enter_operator(*action, subject, script, &mut inside);
+            enter_operator(
+                *action,
+                subject,
+                script,
+                inside.names,
+                &mut inside.knowledge,
+            );
             judge_aside(word, script, inside, reports);
-            gain_action(*action, subject, script, known);
+            gain_action(*action, subject, script, known.names, &mut known.knowledge);
         }
     }
 }

@@ -107,7 +107,7 @@ fn judge_simple(elements: &[Element], script: &[u8], known: &mut Known<'_>, repo
     ensures { Judges (knowing known.old) reports.old (knowing known.new) reports.new (λ s. walks.simple_step script.now s elements.now) }
 {
     let mut behind = *known;
-    gain_operands(elements, script, &mut behind);
+    gain_operands(elements, script, behind.names, &mut behind.knowledge);
     judge_elements(elements, &behind, script, known, reports)
 }
 

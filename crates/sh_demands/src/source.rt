@@ -79,7 +79,7 @@ impl<'a, 's> Source<'a, 's> {
         ensures { knowing result ≡ known_behind self.now number (elements_from script.now elements.now) }
     {
         let mut known = self.before(number);
-        gain_operands(elements, script, &mut known);
+        gain_operands(elements, script, known.names, &mut known.knowledge);
         known
     }
 

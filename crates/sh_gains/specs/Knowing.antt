@@ -9,6 +9,7 @@ use Rattle.sh_tree.specs.standard.program.Syntax.{Text, Parameter}
 use Rattle.sh_table.specs.standard.runs.Environment.{is_one_of}
 use Rattle.sh_domain.specs.Facts.{Facts}
 use Rattle.sh_domain.specs.Knowledge.{knowledge_facts}
+use Rattle.sh_domain.specs.declared.knowledge.Knowledge.{Knowledge}
 use Rattle.sh_gains.specs.declared.known.Known.{Known}
 use Rattle.sh_domain.specs.Gains.{Gains, no_gains, sure, with_gains}
 
@@ -16,9 +17,12 @@ pub record Knowing : Type 0 where
   pub names : List Text
   pub facts : Facts
 
--- what a value of the code means
+-- what values of the code mean
+abbrev pub known_of : List Text → Knowledge → Knowing
+known_of ns k = record { names = ns; facts = knowledge_facts ns k }
+
 abbrev pub knowing : Known → Knowing
-knowing k = record { names = k.names.now; facts = knowledge_facts k.names.now k.knowledge }
+knowing k = known_of k.names.now k.knowledge
 
 -- those of these names
 abbrev pub among : List Text → Gains → Gains

@@ -1,9 +1,8 @@
-//! What is known at a place, as a walk over a script asks it and adds to it.
-ghost use Rattle.std.specs.Prelude.{◌≡◌, [], ◌∷◌};
+//! What is known at a place, as a walk over a script asks it.
+ghost use Rattle.std.specs.Prelude.{◌≡◌};
 ghost use Rattle.sh_domain.specs.Demands as demands;
 ghost use Rattle.sh_domain.specs.Facts.{claims, Variable, Parameters};
-ghost use Rattle.sh_domain.specs.Gains.{named};
-ghost use Rattle.sh_gains.specs.Knowing.{gained, knowing};
+ghost use Rattle.sh_gains.specs.Knowing.{knowing};
 
 use sh_domain::{Knowledge, Names};
 
@@ -36,21 +35,5 @@ impl Known<'_> {
         ensures { result ≡ claims (knowing self.now).facts (Parameters count) }
     {
         self.knowledge.has_args(count)
-    }
-
-    /// The variable is set from here on.
-    #[tactic(auto, using(crate::proofs::KnowingLemmas::name_gained))]
-    pub fn gain_variable(&mut self, name: &[u8])
-        ensures { knowing self.new ≡ gained (named (name.now ∷ [])) (knowing self.old) }
-    {
-        self.knowledge.gain(self.names, name);
-    }
-
-    /// There are so many positional parameters from here on, at least.
-    #[tactic(auto, using(crate::proofs::KnowingLemmas::parameters_gained))]
-    pub fn gain_parameters(&mut self, count: u16)
-        ensures { knowing self.new ≡ gained (record { names = []; args = count }) (knowing self.old) }
-    {
-        self.knowledge.gain_args(count);
     }
 }

@@ -29,9 +29,9 @@ pub struct Behind {
     pub nonzero: Knowledge,
 }
 
-// Leaves of what is known here what is known there too.
+/// Leaves of what is known here what is known there too.
 #[tactic(auto, unfolding(crate::specs::Walks::facts_in))]
-fn meet(known: &mut Knowledge, other: &Knowledge)
+pub fn meet(known: &mut Knowledge, other: &Knowledge)
     ensures { (x : Setting) → facts_in x known.new ≡ meet (facts_in x known.old) (facts_in x other.now) }
 {
     known.meet(other);
@@ -270,7 +270,8 @@ impl Behind {
     fn pass_any(&mut self, claims: &Claims<'_>, item: &Item)
         ensures { walks.behind_in (setting claims.now) self.new ≡ walks.item_left (setting claims.now) (walks.behind_in (setting claims.now) self.old) item.now }
     {
-        let known = self.in_any_case();
+        let mut known = self.zero;
+        meet(&mut known, &self.nonzero);
         self.pass_known(claims, &known, item);
     }
 
@@ -363,13 +364,4 @@ impl Behind {
             }
         }
     }
-}
-
-/// After a list, at whose start this is known; an empty one passes it on.
-pub fn script_behind(claims: &Claims<'_>, known: &Knowledge, list: &Script) -> Behind
-    ensures { walks.behind_in (setting claims.now) result ≡ walks.script_behind (setting claims.now) (spec.both (facts_in (setting claims.now) known.now)) list.now }
-{
-    let mut behind = Behind::nowhere();
-    behind.pass_script(claims, known, list);
-    behind
 }

@@ -19,22 +19,17 @@ ghost use Rattle.sh_rules.specs.Walks.{facts_in, setting};
 use crate::claims::Claims;
 use crate::gains::{gain_variable, gain_word};
 use sh_domain::{Knowledge, NumberSet};
-use sh_gains::{Known, gain_operands, gain_target};
+use sh_gains::{gain_operands, gain_target};
 use sh_tree::{Element, Target};
 
-/// What is known after the words of a simple command. Its redirections and its values are judged
-/// there.
+/// Has this be what is known after the words of a simple command. Its redirections and its values
+/// are judged there.
 #[tactic(auto, using(crate::proofs::ElementLemmas::words_known))]
-pub fn behind(claims: &Claims<'_>, number: u32, elements: &[Element]) -> Knowledge
-    ensures { facts_in (setting claims.now) result ≡ simple.behind (setting claims.now) number (elements_from (setting claims.now).script elements.now) }
+pub fn behind_into(claims: &Claims<'_>, number: u32, elements: &[Element], known: &mut Knowledge)
+    ensures { facts_in (setting claims.now) known.new ≡ simple.behind (setting claims.now) number (elements_from (setting claims.now).script elements.now) }
 {
-    let mut behind = Known {
-        names: claims.names,
-        knowledge: Knowledge::NotReached,
-    };
-    claims.before_into(number, &mut behind.knowledge);
-    gain_operands(elements, claims.script, &mut behind);
-    behind.knowledge
+    claims.before_into(number, known);
+    gain_operands(elements, claims.script, claims.names, known);
 }
 
 // What the word that a redirection opens leaves known, or the body of a here-document.
@@ -42,12 +37,7 @@ pub fn behind(claims: &Claims<'_>, number: u32, elements: &[Element]) -> Knowled
 fn gain_redirection(claims: &Claims<'_>, target: &Target, known: &mut Knowledge)
     ensures { facts_in (setting claims.now) known.new ≡ gained (setting claims.now) (redirect_gains (target_of (setting claims.now).script target.now)) (facts_in (setting claims.now) known.old) }
 {
-    let mut behind = Known {
-        names: claims.names,
-        knowledge: *known,
-    };
-    gain_target(target, claims.script, &mut behind);
-    *known = behind.knowledge;
+    gain_target(target, claims.script, claims.names, known);
 }
 
 #[tactic(auto, using(crate::proofs::ElementLemmas::values))]

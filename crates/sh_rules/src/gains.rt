@@ -9,7 +9,7 @@ ghost use Rattle.sh_rules.specs.Walks.{facts_in, setting};
 
 use crate::claims::Claims;
 use sh_domain::Knowledge;
-use sh_gains::{Known, gains as words};
+use sh_gains::gains as words;
 use sh_tree::{Action, Expr, Redirect, Subject, Word};
 
 /// A variable is set from here on.
@@ -25,12 +25,7 @@ pub fn gain_variable(claims: &Claims<'_>, name: &[u8], known: &mut Knowledge)
 pub fn gain_word(claims: &Claims<'_>, word: &Word, known: &mut Knowledge)
     ensures { facts_in (setting claims.now) known.new ≡ gained (setting claims.now) (word_gains (parts_from (setting claims.now).script word.now.parts)) (facts_in (setting claims.now) known.old) }
 {
-    let mut behind = Known {
-        names: claims.names,
-        knowledge: *known,
-    };
-    words::gain_word(word, claims.script, &mut behind);
-    *known = behind.knowledge;
+    words::gain_word(word, claims.script, claims.names, known);
 }
 
 // What is known after redirections.
@@ -38,12 +33,7 @@ pub fn gain_word(claims: &Claims<'_>, word: &Word, known: &mut Knowledge)
 fn gain_all(claims: &Claims<'_>, redirects: &[Redirect], known: &mut Knowledge)
     ensures { facts_in (setting claims.now) known.new ≡ gained (setting claims.now) (redirects_gains (redirects_from (setting claims.now).script redirects.now)) (facts_in (setting claims.now) known.old) }
 {
-    let mut behind = Known {
-        names: claims.names,
-        knowledge: *known,
-    };
-    words::gain_redirects(redirects, claims.script, &mut behind);
-    *known = behind.knowledge;
+    words::gain_redirects(redirects, claims.script, claims.names, known);
 }
 
 /// What is known after redirections.
@@ -62,12 +52,7 @@ pub fn gain_redirects(claims: &Claims<'_>, redirects: &[Redirect], known: &mut K
 fn gain_subject(claims: &Claims<'_>, subject: Subject, known: &mut Knowledge)
     ensures { facts_in (setting claims.now) known.new ≡ gained (setting claims.now) (sure (parameter_of (setting claims.now).script subject)) (facts_in (setting claims.now) known.old) }
 {
-    let mut behind = Known {
-        names: claims.names,
-        knowledge: *known,
-    };
-    words::gain_subject(subject, claims.script, &mut behind);
-    *known = behind.knowledge;
+    words::gain_subject(subject, claims.script, claims.names, known);
 }
 
 /// What an expansion with an operator and a word leaves set.
@@ -75,12 +60,7 @@ fn gain_subject(claims: &Claims<'_>, subject: Subject, known: &mut Knowledge)
 pub fn gain_action(claims: &Claims<'_>, action: Action, subject: Subject, known: &mut Knowledge)
     ensures { facts_in (setting claims.now) known.new ≡ gained (setting claims.now) (action_gains (parameter_of (setting claims.now).script subject) action) (facts_in (setting claims.now) known.old) }
 {
-    let mut behind = Known {
-        names: claims.names,
-        knowledge: *known,
-    };
-    words::gain_action(action, subject, claims.script, &mut behind);
-    *known = behind.knowledge;
+    words::gain_action(action, subject, claims.script, claims.names, known);
 }
 
 /// The names that arithmetic is sure to assign are set.
@@ -88,12 +68,7 @@ pub fn gain_action(claims: &Claims<'_>, action: Action, subject: Subject, known:
 pub fn gain_assigned(claims: &Claims<'_>, expression: &Expr, known: &mut Knowledge)
     ensures { facts_in (setting claims.now) known.new ≡ gained (setting claims.now) (named (assigned_in (expression_of (setting claims.now).script expression.now))) (facts_in (setting claims.now) known.old) }
 {
-    let mut behind = Known {
-        names: claims.names,
-        knowledge: *known,
-    };
-    words::gain_assigned(expression, claims.script, &mut behind);
-    *known = behind.knowledge;
+    words::gain_assigned(expression, claims.script, claims.names, known);
 }
 
 /// If the word of `+` is expanded, its parameter is set.

@@ -16,7 +16,7 @@ mod slots;
 
 pub use around::{Around, Loops, alone, in_function};
 pub use asked::Asked;
-pub use behind::{Behind, is_settled, met, pipe_behind, script_behind, without_job};
+pub use behind::{Behind, is_settled, meet, met, pipe_behind, without_job};
 pub use claims::Claims;
 pub use course::{Course, begun};
 pub use fault::{Fault, Least};

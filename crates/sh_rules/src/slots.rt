@@ -204,15 +204,6 @@ impl Claims<'_> {
         known.claim(&self.certificate.rows, &facts);
     }
 
-    /// What is claimed after a command, if its status is zero.
-    pub fn zero(&self, number: u32) -> Knowledge
-        ensures { facts_in (setting self.now) result ≡ known_at (setting self.now) (views.AfterZero number) }
-    {
-        let mut known = Knowledge::NotReached;
-        self.zero_into(number, &mut known);
-        known
-    }
-
     /// Has this be what is claimed after a command, if its status is zero.
     #[tactic(auto, using(crate::proofs::ClaimLemmas::claim_known))]
     pub fn zero_into(&self, number: u32, known: &mut Knowledge)
@@ -220,15 +211,6 @@ impl Claims<'_> {
     {
         let facts = self.zero_facts(number);
         known.claim(&self.certificate.rows, &facts);
-    }
-
-    /// What is claimed after a command, if its status is another one.
-    pub fn nonzero(&self, number: u32) -> Knowledge
-        ensures { facts_in (setting self.now) result ≡ known_at (setting self.now) (views.AfterNonzero number) }
-    {
-        let mut known = Knowledge::NotReached;
-        self.nonzero_into(number, &mut known);
-        known
     }
 
     /// Has this be what is claimed after a command, if its status is another one.

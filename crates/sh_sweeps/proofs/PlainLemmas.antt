@@ -166,13 +166,10 @@ module _ (s : Subject) (admitted : IsAdmitted s.script.now s.policy.now s.tree.n
       command_placed s by y f c [] (subst (AreParts s by y f) alone.part (short_placed s by y f (out-AndOr (out-Item i).list).first one pipe))
 
   -- what is gained, by a walk that goes over the words
-  pub words_known : (g : Gains) (ms ns : List p.Text) (k l : Knowledge) → ns ≡ s.names.now
-      → record { names = ms; facts = knowledge_facts ms l } ≡ knowing.gained g (record { names = ns; facts = knowledge_facts ns k })
+  pub words_known : (g : Gains) (k l : Knowledge) → knowing.known_of s.names.now l ≡ knowing.gained g (knowing.known_of s.names.now k)
       → (q : Seen) → Knows s q (knowledge_facts s.names.now k) → Knows s (gaining g q) (knowledge_facts s.names.now l)
   unfolding facts_in
-  words_known g ms ns k l names is =
-      gains_known s x numbered over g k l
-      (facts_gained (setting_by s x) ms k l g (subst (λ (names : List p.Text). record { names = ms; facts = knowledge_facts ms l } ≡ knowing.gained g (record { names = names; facts = knowledge_facts names k })) names is))
+  words_known g k l is = gains_known s x numbered over g k l (facts_gained (setting_by s x) s.names.now k l g is)
 
   pub utility_carried : (c : Command) (es : List Element) (k l : Knowledge) → IsSimple c es → IsPlain s c
       → ((q : Seen) → Knows s q (knowledge_facts s.names.now k) → Knows s (behind_words (elements_from s.script.now es) q) (knowledge_facts s.names.now l)) → IsCarried s c k l

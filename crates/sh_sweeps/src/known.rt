@@ -17,7 +17,7 @@ ghost use Rattle.sh_drafts.specs.Ready.{IsReady};
 use crate::claims::claims_of;
 use sh_domain::{Certificate, FlowRule, Knowledge};
 use sh_drafts::Subject;
-use sh_gains::{Known, gain_operands};
+use sh_gains::gain_operands;
 use sh_rules::{
     Behind, Course, enter_operator, gain_action, gain_assigned, gain_redirects, gain_variable,
     gain_word, pipe_behind, without_job,
@@ -32,8 +32,9 @@ pub fn before_of(subject: &Subject<'_>, certificate: &Certificate, number: u32) 
     ensures { Knows subject.now (at (views.Before number)) (knowledge_facts subject.now.names.now result) }
 {
     let claims = claims_of(subject, certificate);
-    let entered = claims.before(number);
-    entered
+    let mut known = Knowledge::NotReached;
+    claims.before_into(number, &mut known);
+    known
 }
 
 /// After a command, if its status is zero.
@@ -42,7 +43,9 @@ pub fn zero_of(subject: &Subject<'_>, certificate: &Certificate, number: u32) ->
     ensures { Knows subject.now (at (views.AfterZero number)) (knowledge_facts subject.now.names.now result) }
 {
     let claims = claims_of(subject, certificate);
-    claims.zero(number)
+    let mut known = Knowledge::NotReached;
+    claims.zero_into(number, &mut known);
+    known
 }
 
 /// After a command, if its status is another one.
@@ -51,24 +54,24 @@ pub fn nonzero_of(subject: &Subject<'_>, certificate: &Certificate, number: u32)
     ensures { Knows subject.now (at (views.AfterNonzero number)) (knowledge_facts subject.now.names.now result) }
 {
     let claims = claims_of(subject, certificate);
-    claims.nonzero(number)
+    let mut known = Knowledge::NotReached;
+    claims.nonzero_into(number, &mut known);
+    known
 }
 
-// After redirections.
-fn behind_redirections(
+// After redirections too.
+fn gain_redirections(
     subject: &Subject<'_>,
     certificate: &Certificate,
     redirects: &[Redirect],
-    known: &Knowledge,
-) -> Knowledge
+    known: &mut Knowledge,
+)
     requires { (probed : ℕ) × IsReady subject.now certificate.now probed }
-    ensures { (q : Seen) → Knows subject.now q (knowledge_facts subject.now.names.now known.now)
-        → Knows subject.now (gaining (redirects_gains (redirects_from subject.now.script.now redirects.now)) q) (knowledge_facts subject.now.names.now result) }
+    ensures { (q : Seen) → Knows subject.now q (knowledge_facts subject.now.names.now known.old)
+        → Knows subject.now (gaining (redirects_gains (redirects_from subject.now.script.now redirects.now)) q) (knowledge_facts subject.now.names.now known.new) }
 {
     let claims = claims_of(subject, certificate);
-    let mut behind = *known;
-    gain_redirects(&claims, redirects, &mut behind);
-    behind
+    gain_redirects(&claims, redirects, known);
 }
 
 /// Inside a command, after its redirections.
@@ -76,8 +79,10 @@ pub fn inside_of(subject: &Subject<'_>, certificate: &Certificate, command: &Com
     requires { (probed : ℕ) × IsReady subject.now certificate.now probed }
     ensures { Knows subject.now (behind_redirects (out-Command command.now).number (redirects_from subject.now.script.now (out-Command command.now).redirects)) (knowledge_facts subject.now.names.now result) }
 {
-    let before = before_of(subject, certificate, command.number);
-    behind_redirections(subject, certificate, command.redirects.as_slice(), &before)
+    let mut inside = before_of(subject, certificate, command.number);
+    let redirects = command.redirects.as_slice();
+    gain_redirections(subject, certificate, redirects, &mut inside);
+    inside
 }
 
 /// In the process of a subshell.
@@ -213,12 +218,9 @@ pub fn behind_operands(
     ensures { (q : Seen) → Knows subject.now q (knowledge_facts subject.now.names.now known.now)
         → Knows subject.now (behind_words (elements_from subject.now.script.now elements.now) q) (knowledge_facts subject.now.names.now result) }
 {
-    let mut behind = Known {
-        names: subject.names,
-        knowledge: *known,
-    };
-    gain_operands(elements, subject.script, &mut behind);
-    behind.knowledge
+    let mut behind = *known;
+    gain_operands(elements, subject.script, subject.names, &mut behind);
+    behind
 }
 
 /// In the word after an operator, where it is expanded.

@@ -22,12 +22,12 @@ ghost use Rattle.sh_sweeps.specs.Sweeps.{AreItems, ArePassed, Knows, known_behin
 ghost use Rattle.sh_drafts.specs.Ready.{IsReady};
 
 use crate::claims::claims_of;
-use sh_domain::{Certificate, FlowRule};
+use sh_domain::{Certificate, FlowRule, Knowledge};
 use sh_drafts::inner::is_in_elements;
 use sh_drafts::{Draft, Subject};
-use sh_gains::{Known, gain_operands};
-use sh_rules::Course;
+use sh_gains::gain_operands;
 use sh_rules::elements::gain_assignments;
+use sh_rules::{Course, meet};
 use sh_table::{Kind as Meaning, kind_of};
 use sh_tree::{Command, Element, Item, Kind, Part, Span, Word};
 use sh_worklist::does_item_wait;
@@ -116,15 +116,13 @@ fn gain_words(
     subject: &Subject<'_>,
     certificate: &Certificate,
     elements: &[Element],
-    known: &mut Known<'_>,
+    known: &mut Knowledge,
 )
-    requires ready { (probed : ℕ) × IsReady subject.now certificate.now probed }
-    requires names { known.old.names.now ≡ subject.now.names.now }
-    ensures names { known.new.names.now ≡ subject.now.names.now }
-    ensures known { (q : Seen) → Knows subject.now q (knowledge_facts subject.now.names.now known.old.knowledge)
-        → Knows subject.now (behind_words (elements_from subject.now.script.now elements.now) q) (knowledge_facts subject.now.names.now known.new.knowledge) }
+    requires { (probed : ℕ) × IsReady subject.now certificate.now probed }
+    ensures { (q : Seen) → Knows subject.now q (knowledge_facts subject.now.names.now known.old)
+        → Knows subject.now (behind_words (elements_from subject.now.script.now elements.now) q) (knowledge_facts subject.now.names.now known.new) }
 {
-    gain_operands(elements, subject.script, known);
+    gain_operands(elements, subject.script, subject.names, known);
 }
 
 // What the assignments leave set too.
@@ -132,16 +130,14 @@ fn gain_values(
     subject: &Subject<'_>,
     certificate: &Certificate,
     elements: &[Element],
-    known: &mut Known<'_>,
+    known: &mut Knowledge,
 )
-    requires ready { (probed : ℕ) × IsReady subject.now certificate.now probed }
-    requires names { known.old.names.now ≡ subject.now.names.now }
-    ensures names { known.new.names.now ≡ subject.now.names.now }
-    ensures known { (q : Seen) → Knows subject.now q (knowledge_facts subject.now.names.now known.old.knowledge)
-        → Knows subject.now (gaining (assignments_gains (elements_from subject.now.script.now elements.now)) q) (knowledge_facts subject.now.names.now known.new.knowledge) }
+    requires { (probed : ℕ) × IsReady subject.now certificate.now probed }
+    ensures { (q : Seen) → Knows subject.now q (knowledge_facts subject.now.names.now known.old)
+        → Knows subject.now (gaining (assignments_gains (elements_from subject.now.script.now elements.now)) q) (knowledge_facts subject.now.names.now known.new) }
 {
     let claims = claims_of(subject, certificate);
-    gain_assignments(&claims, elements, &mut known.knowledge);
+    gain_assignments(&claims, elements, known);
 }
 
 // Goes on after a simple command, if it is plain or assignments alone. Reports whether it is.
@@ -149,13 +145,11 @@ fn carry_elements(
     subject: &Subject<'_>,
     certificate: &Certificate,
     elements: &[Element],
-    known: &mut Known<'_>,
+    known: &mut Knowledge,
 ) -> bool
-    requires ready { (probed : ℕ) × IsReady subject.now certificate.now probed }
-    requires names { known.old.names.now ≡ subject.now.names.now }
-    ensures names { known.new.names.now ≡ subject.now.names.now }
-    ensures carried { result ≡ true → (command : tree.Command) → IsSimple command elements.now → IsCarried subject.now command known.old.knowledge known.new.knowledge }
-    ensures stays { result ≡ false → known.new.knowledge ≡ known.old.knowledge }
+    requires { (probed : ℕ) × IsReady subject.now certificate.now probed }
+    ensures carried { result ≡ true → (command : tree.Command) → IsSimple command elements.now → IsCarried subject.now command known.old known.new }
+    ensures stays { result ≡ false → known.new ≡ known.old }
 {
     if is_plain(subject, elements) {
         gain_words(subject, certificate, elements, known);
@@ -171,12 +165,10 @@ fn carry_elements(
 
 // Goes on after an item, if it is a command over which what is known is carried: a hint. It is not
 // carried over an item that waits or holds commands. Reports whether it goes on.
-fn carry_item(subject: &Subject<'_>, draft: &Draft, item: &Item, known: &mut Known<'_>) -> bool
-    requires ready { IsReady subject.now draft.now.certificate draft.now.probe.count }
-    requires names { known.old.names.now ≡ subject.now.names.now }
-    ensures names { known.new.names.now ≡ subject.now.names.now }
-    ensures carried { result ≡ true → IsItemCarried subject.now item.now known.old.knowledge known.new.knowledge }
-    ensures stays { result ≡ false → known.new.knowledge ≡ known.old.knowledge }
+fn carry_item(subject: &Subject<'_>, draft: &Draft, item: &Item, known: &mut Knowledge) -> bool
+    requires { IsReady subject.now draft.now.certificate draft.now.probe.count }
+    ensures carried { result ≡ true → IsItemCarried subject.now item.now known.old known.new }
+    ensures stays { result ≡ false → known.new ≡ known.old }
 {
     let Some(command) = lone_command(item) else {
         return false;
@@ -197,15 +189,14 @@ fn carry_run(
     draft: &Draft,
     items: &[Item],
     place: usize,
-    known: &mut Known<'_>,
+    known: &mut Knowledge,
 ) -> usize
     requires ready { IsReady subject.now draft.now.certificate draft.now.probe.count }
-    requires names { known.old.names.now ≡ subject.now.names.now }
     requires within { place < length items.now }
-    requires placed { (by : rule.FlowRule) × (y : entries.Around) × AreItems subject.now by y (both (knowledge_facts subject.now.names.now known.old.knowledge)) (drop place items.now) }
+    requires placed { (by : rule.FlowRule) × (y : entries.Around) × AreItems subject.now by y (both (knowledge_facts subject.now.names.now known.old)) (drop place items.now) }
     ensures from { place ≤ result }
     ensures there { result < length items.now }
-    ensures passed { ArePassed subject.now (joined known.old.knowledge) (joined known.new.knowledge) (take (result - place) (drop place items.now)) }
+    ensures passed { ArePassed subject.now (joined known.old) (joined known.new) (take (result - place) (drop place items.now)) }
 {
     let mut next = place;
     while next < items.len() - 1 {
@@ -237,16 +228,14 @@ pub fn carry_over(
     if !draft.carries() {
         return place;
     }
-    let mut known = Known {
-        names: subject.names,
-        knowledge: course.behind.in_any_case(),
-    };
+    let mut known = course.behind.zero;
+    meet(&mut known, &course.behind.nonzero);
     let next = carry_run(subject, draft, items, place, &mut known);
     if next == place {
         return place;
     }
-    course.behind.zero = known.knowledge;
-    course.behind.nonzero = known.knowledge;
+    course.behind.zero = known;
+    course.behind.nonzero = known;
     course.by = FlowRule::F2;
     next
 }

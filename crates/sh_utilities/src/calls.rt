@@ -14,7 +14,7 @@ ghost use Rattle.sh_rules.specs.Walks.{facts_in, setting};
 use crate::steps::{count_words, lose_variable};
 use crate::utilities::behind_name;
 use sh_domain::{FlowRule, Knowledge, Return};
-use sh_rules::elements::{behind, gain_prefixes, is_redirected, prefix_set};
+use sh_rules::elements::{behind_into, gain_prefixes, is_redirected, prefix_set};
 use sh_rules::{Asked, Claims, Fault, Place};
 use sh_tree::Element;
 
@@ -158,7 +158,8 @@ pub fn tell_call<A: Asked>(
 {
     let rule = FlowRule::F14;
     let fault = Fault { number, rule };
-    let known = behind(claims, number, elements);
+    let mut known = Knowledge::NotReached;
+    behind_into(claims, number, elements, &mut known);
     let inside = entry(claims, elements, &known);
     let zero = call_zero(claims, function, elements, &known);
     let nonzero = call_nonzero(claims, function, elements, &known);

@@ -11,4 +11,4 @@ mod utilities;
 pub use calls::tell_call;
 pub use jumps::{jump_loop, tell_jumps};
 pub use texts::first_number;
-pub use utilities::{behind_name, nameless_behind, settled, utility_behind};
+pub use utilities::{behind_name, settled, utility_behind};

@@ -25,7 +25,7 @@ use crate::steps::{count_none, count_words, lose_variable, shift, take_parameter
 use crate::texts::{first_number, getopts_name, lose_unset, runs_command};
 use sh_domain::{Knowledge, NumberSet, read_operands};
 use sh_operands::positional_at;
-use sh_rules::elements::{gain_assignments, gain_left, is_redirected, prefix_set};
+use sh_rules::elements::{gain_left, is_redirected, prefix_set};
 use sh_rules::{Behind, Claims, gain_variable, met};
 use sh_table::{Kind, WordText, are_static, definition_in};
 use sh_tree::{Element, KnownName, Part, Word, is_name};
@@ -424,26 +424,5 @@ pub fn utility_behind(
         Kind::Command => Behind::both(known),
         Kind::Refused(_) => Behind::both(known),
         Kind::Utility => Behind::both(known),
-    }
-}
-
-#[tactic(auto, unfolding(sh_rules::specs::TextBounds::unless_failed))]
-fn unless_failed(is_redirected: bool, known: &Knowledge, settled: &Knowledge) -> Knowledge
-    ensures { (x : Setting) → facts_in x result ≡ spec.unless_failed is_redirected (facts_in x known.now) (facts_in x settled.now) }
-{
-    if is_redirected { *known } else { *settled }
-}
-
-/// After a simple command without a name. If it fails, a redirection may have failed, and no
-/// assignment need be done.
-#[tactic(auto, unfolding(sh_rules::specs::TextBounds::nameless_by))]
-pub fn nameless_behind(claims: &Claims<'_>, elements: &[Element], known: &Knowledge) -> Behind
-    ensures { behind_in (setting claims.now) result ≡ spec.nameless_by (setting claims.now) (facts_in (setting claims.now) known.now) (elements_from (setting claims.now).script elements.now) }
-{
-    let mut zero = *known;
-    gain_assignments(claims, elements, &mut zero);
-    Behind {
-        zero,
-        nonzero: unless_failed(is_redirected(elements), known, &zero),
     }
 }

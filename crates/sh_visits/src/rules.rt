@@ -45,7 +45,9 @@ fn tell_inside<A: Asked>(
 )
     ensures { A.kept asked.new ≡ tells.kind_told A.asked (setting claims.now) number (commands.redirected (setting claims.now) number (redirects_from (setting claims.now).script redirects.now)) kind.now (A.kept asked.old) }
 {
-    let known = behind_redirects(claims, number, redirects);
+    let mut known = Knowledge::NotReached;
+    claims.before_into(number, &mut known);
+    gain_redirects(claims, redirects, &mut known);
     tell_compound(claims, number, &known, kind, asked);
 }
 
@@ -127,15 +129,6 @@ fn is_redirected(redirects: &[Redirect]) -> bool
         [] => false,
         [_, ..] => true,
     }
-}
-
-// What is known after the redirections of a command.
-fn behind_redirects(claims: &Claims<'_>, number: u32, redirects: &[Redirect]) -> Knowledge
-    ensures { facts_in (setting claims.now) result ≡ commands.redirected (setting claims.now) number (redirects_from (setting claims.now).script redirects.now) }
-{
-    let mut known = claims.before(number);
-    gain_redirects(claims, redirects, &mut known);
-    known
 }
 
 /// What a command asks, as it is entered by this rule with this round it and this known there.

@@ -5,18 +5,19 @@ ghost use Rattle.sh_tree.specs.Lists.{elements_from};
 ghost use Rattle.sh_table.specs.WordTexts.{text_in};
 ghost use Rattle.sh_domain.specs.declared.rule.FlowRule.TheVariants.{F4};
 ghost use Rattle.sh_rules.specs.Bounds.{fault, leaves_told};
-ghost use Rattle.sh_rules.specs.TextBounds.{settled, utility_by};
+ghost use Rattle.sh_rules.specs.Settings.{Setting};
+ghost use Rattle.sh_rules.specs.TextBounds.{settled, unless_failed, utility_by};
 ghost use Rattle.sh_rules.specs.TextTells as spec;
 ghost use Rattle.sh_rules.specs.Walks as walks;
 ghost use Rattle.sh_rules.specs.Walks.{facts_in, setting};
 
 use sh_compounds::{tell_both, tell_leaves};
 use sh_domain::{FlowRule, Knowledge};
-use sh_rules::elements::behind;
-use sh_rules::{Around, Asked, Claims, Fault};
+use sh_rules::elements::{behind_into, gain_assignments, is_redirected};
+use sh_rules::{Around, Asked, Claims, Fault, Place};
 use sh_table::{Kind, WordText, kind_of};
 use sh_tree::Element;
-use sh_utilities::{nameless_behind, settled, tell_call, tell_jumps, utility_behind};
+use sh_utilities::{settled, tell_call, tell_jumps, utility_behind};
 
 // Whether a utility of this kind leaves what is known after its words, and does not jump.
 #[tactic(auto, unfolding(sh_rules::specs::TextTells::is_neutral))]
@@ -70,7 +71,8 @@ fn tell_utility<A: Asked>(
 )
     ensures { A.kept asked.new ≡ spec.told_by A.asked (setting claims.now) number (walks.around (setting claims.now).script around.now) (elements_from (setting claims.now).script elements.now) kind (map (text_in (setting claims.now).script) operands.now) (A.kept asked.old) }
 {
-    let known = behind(claims, number, elements);
+    let mut known = Knowledge::NotReached;
+    behind_into(claims, number, elements, &mut known);
     if is_neutral(kind) {
         let rule = FlowRule::F4;
         tell_both(claims, Fault { number, rule }, &known, asked);
@@ -81,13 +83,32 @@ fn tell_utility<A: Asked>(
     }
 }
 
+#[tactic(auto, unfolding(sh_rules::specs::TextBounds::unless_failed))]
+fn unless_failed<'a>(
+    is_redirected: bool,
+    known: &'a Knowledge,
+    settled: &'a Knowledge,
+) -> &'a Knowledge
+    ensures { (x : Setting) → facts_in x result.now ≡ unless_failed is_redirected (facts_in x known.entry.now) (facts_in x settled.entry.now) }
+{
+    if is_redirected { known } else { settled }
+}
+
+// Of a simple command without a name. If it fails, a redirection may have failed, and no
+// assignment need be done.
+#[tactic(auto, unfolding(sh_rules::specs::Bounds::leaves_told, sh_rules::specs::TextBounds::nameless_by))]
 fn tell_nameless<A: Asked>(claims: &Claims<'_>, number: u32, elements: &[Element], asked: &mut A)
     ensures { A.kept asked.new ≡ spec.nameless_told A.asked (setting claims.now) number (elements_from (setting claims.now).script elements.now) (A.kept asked.old) }
 {
     let rule = FlowRule::F5;
-    let known = behind(claims, number, elements);
-    let left = nameless_behind(claims, elements, &known);
-    tell_leaves(claims, Fault { number, rule }, &left, asked);
+    let fault = Fault { number, rule };
+    let mut known = Knowledge::NotReached;
+    behind_into(claims, number, elements, &mut known);
+    let mut zero = known;
+    gain_assignments(claims, elements, &mut zero);
+    let nonzero = unless_failed(is_redirected(elements), &known, &zero);
+    asked.bound(claims, Place::Zero(number), fault, &zero);
+    asked.bound(claims, Place::Nonzero(number), fault, nonzero);
 }
 
 #[tactic(auto, unfolding(sh_rules::specs::TextTells::named_by))]

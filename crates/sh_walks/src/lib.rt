@@ -2,6 +2,7 @@
 //! rule.
 #![tactic(auto)]
 
+mod lone;
 mod rules;
 pub mod walk;
 

@@ -2,18 +2,21 @@
 //! each, what is round it and what is known there (XCU 2.9, 2.13).
 ghost use Rattle.std.specs.Prelude.{◌≡◌, fold};
 ghost use Rattle.sh_tree.specs.standard.program.Trees.{script_of};
+ghost use Rattle.sh_domain.specs.Facts.{meet};
 ghost use Rattle.sh_rules.specs.Behind.{turns};
-ghost use Rattle.sh_rules.specs.Settings.{Setting};
+ghost use Rattle.sh_rules.specs.Settings.{Setting, without_job};
 ghost use Rattle.sh_rules.specs.Walked as spec;
 ghost use Rattle.sh_rules.specs.Walked.{Met, trail};
 ghost use Rattle.sh_rules.specs.Steps as steps;
 ghost use Rattle.sh_rules.specs.Walks as walks;
 ghost use Rattle.sh_rules.specs.Walks.{facts_in, setting};
+ghost use Rattle.sh_walks.specs.Lone.{inside_kept};
 
+use crate::lone::is_lone;
 use sh_domain::{FlowRule, Knowledge};
 use sh_rules::{
-    Around, Claims, Course, alone, begun, enter_operator, gain_action, gain_assigned,
-    gain_variable, gain_word, in_function, met, pipe_behind, without_job,
+    Around, Behind, Claims, Course, alone, begun, enter_operator, gain_action, gain_assigned,
+    gain_variable, gain_word, in_function, is_settled, pipe_behind,
 };
 use sh_tree::{
     AndOr, Binary, Branch, Clause, Command, Element, Expr, Item, Items, Kind, Link, LoopKind,
@@ -62,6 +65,22 @@ fn gain_operands(claims: &Claims<'_>, elements: &[Element], known: &mut Knowledg
     }
 }
 
+// A process that is started may have no `!`.
+#[tactic(auto, unfolding(sh_rules::specs::Settings::without_job, sh_rules::specs::Walks::facts_in, sh_rules::specs::Walks::setting))]
+fn lose_job(claims: &Claims<'_>, known: &mut Knowledge)
+    ensures { facts_in (setting claims.now) known.new ≡ without_job (setting claims.now) (facts_in (setting claims.now) known.old) }
+{
+    known.lose_variable(claims.names, b"!");
+}
+
+// Leaves of what is known here what is known there too.
+#[tactic(auto, unfolding(sh_rules::specs::Walks::facts_in))]
+fn meet(known: &mut Knowledge, other: &Knowledge)
+    ensures { (x : Setting) → facts_in x known.new ≡ meet (facts_in x known.old) (facts_in x other.now) }
+{
+    known.meet(other);
+}
+
 #[cycle(walk)]
 #[tactic(auto, using(sh_rules::proofs::WalkLemmas::script_out))]
 fn walk_script<V: Visitor>(
@@ -91,6 +110,18 @@ fn walk_items<V: Visitor>(
     }
 }
 
+// Goes on after an item, if what is known at zero is known whatever the status was.
+fn pass_joined(claims: &Claims<'_>, behind: &mut Behind, item: &Item)
+    ensures { walks.behind_in (setting claims.now) behind.new ≡ walks.behind_item (setting claims.now) (facts_in (setting claims.now) behind.old.zero) item.now }
+{
+    if is_settled(item) {
+        behind.pass_item(claims, item);
+    } else {
+        let known = behind.zero;
+        behind.pass_known(claims, &known, item);
+    }
+}
+
 #[cycle(walk)]
 #[tactic(auto, using(sh_rules::proofs::WalkLemmas::item_out))]
 fn walk_item<V: Visitor>(
@@ -102,9 +133,10 @@ fn walk_item<V: Visitor>(
 )
     ensures { steps.ran (setting claims.now) course.new (V.kept visitor.new) ≡ steps.item_step (setting claims.now) (V.with_met (setting claims.now)) (walks.around (setting claims.now).script around.now) (steps.ran (setting claims.now) course.old (V.kept visitor.old)) item.now }
 {
-    let seen = course.behind.in_any_case();
-    enter_item(claims, around, course.by, &seen, item, visitor);
-    course.behind.pass_known(claims, &seen, item);
+    course.behind.join();
+    let known = &course.behind.zero;
+    enter_item(claims, around, course.by, known, item, visitor);
+    pass_joined(claims, &mut course.behind, item);
     course.by = FlowRule::F2;
 }
 
@@ -123,7 +155,8 @@ fn enter_item<V: Visitor>(
 {
     if item.background {
         let inner = alone();
-        let seen = without_job(claims, known);
+        let mut seen = *known;
+        lose_job(claims, &mut seen);
         walk_and_or(claims, FlowRule::F11, &inner, &seen, &item.list, visitor);
     } else {
         walk_and_or(claims, by, around, known, &item.list, visitor);
@@ -210,7 +243,8 @@ fn walk_pipe<V: Visitor>(
         [command] => walk_command(claims, by, around, known, command, visitor),
         [_, _, ..] => {
             let inner = around.round_parts();
-            let seen = without_job(claims, known);
+            let mut seen = *known;
+            lose_job(claims, &mut seen);
             let parts = pipe.parts.as_slice();
             walk_commands(claims, FlowRule::F12, &inner, &seen, parts, visitor);
         }
@@ -234,7 +268,6 @@ fn walk_commands<V: Visitor>(
 }
 
 #[cycle(walk)]
-#[tactic(auto, using(sh_rules::proofs::WalkLemmas::command_out))]
 fn walk_command<V: Visitor>(
     claims: &Claims<'_>,
     by: FlowRule,
@@ -246,13 +279,30 @@ fn walk_command<V: Visitor>(
     ensures { V.kept visitor.new ≡ steps.command_kept (setting claims.now) (V.with_met (setting claims.now)) by (walks.around (setting claims.now).script around.now) (facts_in (setting claims.now) known.now) (V.kept visitor.old) command.now }
 {
     visitor.visit(claims, by, around, known, command);
-    let mut inside = claims.before(command.number);
+    if !is_lone(command) {
+        walk_inside(claims, around, command, visitor);
+    }
+}
+
+// The commands in a command. It is not inlined: each visit would fill its local.
+#[cycle(walk)]
+#[inline(never)]
+fn walk_inside<V: Visitor>(
+    claims: &Claims<'_>,
+    around: &Around<'_>,
+    command: &Command,
+    visitor: &mut V,
+)
+    ensures { V.kept visitor.new ≡ inside_kept (setting claims.now) (V.with_met (setting claims.now)) (walks.around (setting claims.now).script around.now) (V.kept visitor.old) command.now }
+{
+    let mut inside = Knowledge::NotReached;
+    claims.before_into(command.number, &mut inside);
     walk_redirects(claims, &mut inside, command.redirects.as_slice(), visitor);
     walk_kind(
         claims,
         around,
         command.number,
-        &inside,
+        &mut inside,
         &command.kind,
         visitor,
     );
@@ -294,23 +344,22 @@ fn walk_kind<V: Visitor>(
     claims: &Claims<'_>,
     around: &Around<'_>,
     number: u32,
-    known: &Knowledge,
+    known: &mut Knowledge,
     kind: &Kind,
     visitor: &mut V,
 )
-    ensures { V.kept visitor.new ≡ steps.kind_kept (setting claims.now) (V.with_met (setting claims.now)) (walks.around (setting claims.now).script around.now) number (trail (facts_in (setting claims.now) known.now) (V.kept visitor.old)) kind.now }
+    ensures { V.kept visitor.new ≡ steps.kind_kept (setting claims.now) (V.with_met (setting claims.now)) (walks.around (setting claims.now).script around.now) number (trail (facts_in (setting claims.now) known.old) (V.kept visitor.old)) kind.now }
 {
     match kind {
         Kind::Simple(elements) => walk_simple(claims, known, elements.as_slice(), visitor),
-        Kind::Group(list) => walk_from(claims, around, FlowRule::F10, known, list, visitor),
+        Kind::Group(list) => walk_from(claims, around, FlowRule::F10, &*known, list, visitor),
         Kind::Subshell(list) => walk_subshell(claims, number, list, visitor),
         Kind::Cond {
             branches,
             otherwise,
         } => {
-            let mut left = *known;
-            walk_branches(claims, around, &mut left, branches.as_slice(), visitor);
-            walk_otherwise(claims, around, &left, otherwise, visitor);
+            walk_branches(claims, around, known, branches.as_slice(), visitor);
+            walk_otherwise(claims, around, &*known, otherwise, visitor);
         }
         Kind::Loop {
             kind: turns,
@@ -328,9 +377,8 @@ fn walk_kind<V: Visitor>(
             walk_for(claims, around, number, *name, body, visitor);
         }
         Kind::Branches { word, clauses } => {
-            let mut behind = *known;
-            walk_word(claims, &mut behind, word, visitor);
-            walk_case(claims, around, &behind, clauses.as_slice(), visitor);
+            walk_word(claims, known, word, visitor);
+            walk_case(claims, around, &*known, clauses.as_slice(), visitor);
         }
         Kind::Define { name, body } => walk_definition(claims, *name, body.get(), visitor),
     }
@@ -341,8 +389,9 @@ fn walk_subshell<V: Visitor>(claims: &Claims<'_>, number: u32, list: &Script, vi
     ensures { V.kept visitor.new ≡ steps.subshell_kept (setting claims.now) (V.with_met (setting claims.now)) number (V.kept visitor.old) list.now }
 {
     let outside = alone();
-    let before = claims.before(number);
-    let seen = without_job(claims, &before);
+    let mut seen = Knowledge::NotReached;
+    claims.before_into(number, &mut seen);
+    lose_job(claims, &mut seen);
     walk_from(claims, &outside, FlowRule::F11, &seen, list, visitor);
 }
 
@@ -409,23 +458,27 @@ fn walk_for<V: Visitor>(
 }
 
 #[cycle(walk)]
-fn walk_words<V: Visitor>(claims: &Claims<'_>, known: &Knowledge, words: &[Word], visitor: &mut V)
-    ensures { V.kept visitor.new ≡ (fold (steps.word_step (setting claims.now) (V.with_met (setting claims.now))) (trail (facts_in (setting claims.now) known.now) (V.kept visitor.old)) words.now).kept }
+fn walk_words<V: Visitor>(
+    claims: &Claims<'_>,
+    known: &mut Knowledge,
+    words: &[Word],
+    visitor: &mut V,
+)
+    ensures { V.kept visitor.new ≡ (fold (steps.word_step (setting claims.now) (V.with_met (setting claims.now))) (trail (facts_in (setting claims.now) known.old) (V.kept visitor.old)) words.now).kept }
 {
-    let mut inside = *known;
     for word in words {
-        walk_word(claims, &mut inside, word, visitor);
+        walk_word(claims, known, word, visitor);
     }
 }
 
 #[cycle(walk)]
 fn walk_simple<V: Visitor>(
     claims: &Claims<'_>,
-    known: &Knowledge,
+    known: &mut Knowledge,
     elements: &[Element],
     visitor: &mut V,
 )
-    ensures { V.kept visitor.new ≡ steps.simple_kept (setting claims.now) (V.with_met (setting claims.now)) (trail (facts_in (setting claims.now) known.now) (V.kept visitor.old)) elements.now }
+    ensures { V.kept visitor.new ≡ steps.simple_kept (setting claims.now) (V.with_met (setting claims.now)) (trail (facts_in (setting claims.now) known.old) (V.kept visitor.old)) elements.now }
 {
     let mut behind = *known;
     gain_operands(claims, elements, &mut behind);
@@ -435,16 +488,15 @@ fn walk_simple<V: Visitor>(
 #[cycle(walk)]
 fn walk_elements<V: Visitor>(
     claims: &Claims<'_>,
-    known: &Knowledge,
+    known: &mut Knowledge,
     behind: &Knowledge,
     elements: &[Element],
     visitor: &mut V,
 )
-    ensures { V.kept visitor.new ≡ (fold (steps.element_step (setting claims.now) (V.with_met (setting claims.now)) (facts_in (setting claims.now) behind.now)) (trail (facts_in (setting claims.now) known.now) (V.kept visitor.old)) elements.now).kept }
+    ensures { V.kept visitor.new ≡ (fold (steps.element_step (setting claims.now) (V.with_met (setting claims.now)) (facts_in (setting claims.now) behind.now)) (trail (facts_in (setting claims.now) known.old) (V.kept visitor.old)) elements.now).kept }
 {
-    let mut inside = *known;
     for element in elements {
-        walk_element(claims, &mut inside, behind, element, visitor);
+        walk_element(claims, known, behind, element, visitor);
     }
 }
 
@@ -498,8 +550,8 @@ fn walk_branch<V: Visitor>(
 {
     let mut course = begun(FlowRule::F6, &*known);
     walk_script(claims, around, &mut course, &branch.condition, visitor);
-    let zero = course.behind.zero;
-    walk_from(claims, around, FlowRule::F6, &zero, &branch.body, visitor);
+    let zero = &course.behind.zero;
+    walk_from(claims, around, FlowRule::F6, zero, &branch.body, visitor);
     *known = course.behind.nonzero;
 }
 
@@ -550,7 +602,8 @@ fn walk_clause<V: Visitor>(
     ensures { trail (facts_in (setting claims.now) fallen.new) (V.kept visitor.new) ≡ steps.clause_step (setting claims.now) (V.with_met (setting claims.now)) (walks.around (setting claims.now).script around.now) (facts_in (setting claims.now) behind.now) (trail (facts_in (setting claims.now) fallen.old) (V.kept visitor.old)) clause.now }
 {
     walk_patterns(claims, behind, clause.patterns.as_slice(), visitor);
-    let seen = met(behind, &*fallen);
+    let mut seen = *behind;
+    meet(&mut seen, &*fallen);
     let mut course = begun(FlowRule::F9, &seen);
     walk_script(claims, around, &mut course, &clause.body, visitor);
     *fallen = course.behind.falling(clause.end);
@@ -616,8 +669,9 @@ fn walk_part<V: Visitor>(claims: &Claims<'_>, known: &mut Knowledge, part: &Part
         }
         Part::Command(_, _, list) => {
             let outside = alone();
-            let seen = without_job(claims, &*known);
-            walk_from(claims, &outside, FlowRule::F11, &seen, list, visitor);
+            let mut inside = *known;
+            lose_job(claims, &mut inside);
+            walk_from(claims, &outside, FlowRule::F11, &inside, list, visitor);
         }
         Part::Plain(_) => (),
         Part::Escaped(_) => (),
@@ -644,7 +698,7 @@ fn walk_operator<V: Visitor>(
         ParameterOperator::Use { action, word, .. } => {
             let mut inside = *known;
             enter_operator(claims, *action, subject, &mut inside);
-            walk_aside(claims, &inside, word, visitor);
+            walk_word(claims, &mut inside, word, visitor);
             gain_action(claims, *action, subject, known);
         }
         ParameterOperator::Remove { pattern, .. } => walk_aside(claims, &*known, pattern, visitor),

@@ -11,5 +11,5 @@ pub returns : goal.returns
 returns c =
     let s = c.args.subject.now in
     let n = (out-Command c.args.command.now).number in
-    subst (λ rs. Knows s (gaining (redirects_gains (redirects_from s.script.now rs)) (at (Before n))) (knowledge_facts s.names.now c.behind_redirections.result)) c.as_slice.ensures
-    (c.behind_redirections.ensures (at (Before n)) c.before_of-before.ensures)
+    subst (λ rs. Knows s (gaining (redirects_gains (redirects_from s.script.now rs)) (at (Before n))) (knowledge_facts s.names.now c.gain_redirections.new.known)) c.as_slice-redirects.ensures
+    (c.gain_redirections.ensures (at (Before n)) c.before_of-inside.ensures)

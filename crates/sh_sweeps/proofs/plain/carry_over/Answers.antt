@@ -17,7 +17,7 @@ carry_run-next-requires-clause-placed c =
     let x = c.args.draft.now.certificate in
     let w = c.requires.placed in
     let at = c.args.course.now in
-    (at.by, w.0, joined_placed s r.admitted x (names_numbered s _ _ r) r.over at.by w.0 (known_behind s at.behind) _ (drop c.args.place c.args.items.now) (c.in_any_case.ensures (setting_by s x)) w.1)
+    (at.by, w.0, joined_placed s r.admitted x (names_numbered s _ _ r) r.over at.by w.0 (known_behind s at.behind) _ (drop c.args.place c.args.items.now) (c.meet.ensures (setting_by s x)) w.1)
 
 pub returns-then-next-place-clause-passed : goal.returns-then-next-place-clause-passed
 returns-then-next-place-clause-passed c = nothing_passed c.args.subject.now c.args.course.now _ (none_between c.args.place (drop c.args.place c.args.items.now))
@@ -31,5 +31,5 @@ returns-clause-passed c =
     let next = c.carry_run-next.result in
     let from = c.carry_run-next.ensures.from in
     let other = c.if-next-place.false in
-    run_passed s r.admitted x (names_numbered s _ _ r) r.over c.args.course.now _ _ (take (next - c.args.place) (drop c.args.place c.args.items.now)) (c.in_any_case.ensures (setting_by s x))
+    run_passed s r.admitted x (names_numbered s _ _ r) r.over c.args.course.now _ _ (take (next - c.args.place) (drop c.args.place c.args.items.now)) (c.meet.ensures (setting_by s x))
     (some_taken c.args.items.now c.args.place next (omega (arith, from, other)) c.carry_run-next.ensures.there) c.carry_run-next.ensures.passed

@@ -1,4 +1,4 @@
-use Rattle.std.proofs.Common.{length, ◌-◌, ◌≡◌, ◌<◌, ◌≤◌, drop, take}
+use Rattle.std.proofs.Common.{length, ◌-◌, ◌<◌, ◌≤◌, drop, take}
 use Rattle.sh_domain.specs.declared.rule.FlowRule as rule
 use Rattle.sh_domain.specs.Entries as entries
 use Rattle.sh_domain.specs.Knowledge.{knowledge_facts}
@@ -12,9 +12,8 @@ abbrev pub invariant-loop-next : goal.invariant-loop-next
 invariant-loop-next l = record {
   from : l.place ≤ l.next;
   there : l.next < length l.items;
-  names : l.known.names.now ≡ l.subject.names.now;
-  placed : (by : rule.FlowRule) × (y : entries.Around) × AreItems l.subject by y (both (knowledge_facts l.subject.names.now l.known.knowledge)) (drop l.next l.items);
-  run : ArePassed l.subject (joined l.initial.known.knowledge) (joined l.known.knowledge) (take (l.next - l.place) (drop l.place l.items));
+  placed : (by : rule.FlowRule) × (y : entries.Around) × AreItems l.subject by y (both (knowledge_facts l.subject.names.now l.known)) (drop l.next l.items);
+  run : ArePassed l.subject (joined l.initial.known) (joined l.known) (take (l.next - l.place) (drop l.place l.items));
 }
 
 abbrev pub decreases-loop-next : goal.decreases-loop-next

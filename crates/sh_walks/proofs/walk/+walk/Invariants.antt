@@ -19,10 +19,10 @@ abbrev pub invariant-walk_redirects-loop-redirect : goal.invariant-walk_redirect
 invariant-walk_redirects-loop-redirect g l = trail (walks.facts_in (walks.setting l.claims) l.known) (g.V.Visitor.kept l.visitor) ≡ fold (steps.redirect_step (walks.setting l.claims) (g.V.Visitor.with_met (walks.setting l.claims))) (trail (walks.facts_in (walks.setting l.claims) l.initial.known) (g.V.Visitor.kept l.initial.visitor)) (take l.redirect-index l.redirects)
 
 abbrev pub invariant-walk_words-loop-word : goal.invariant-walk_words-loop-word
-invariant-walk_words-loop-word g l = trail (walks.facts_in (walks.setting l.claims) l.inside) (g.V.Visitor.kept l.visitor) ≡ fold (steps.word_step (walks.setting l.claims) (g.V.Visitor.with_met (walks.setting l.claims))) (trail (walks.facts_in (walks.setting l.claims) l.initial.inside) (g.V.Visitor.kept l.initial.visitor)) (take l.word-index l.words)
+invariant-walk_words-loop-word g l = trail (walks.facts_in (walks.setting l.claims) l.known) (g.V.Visitor.kept l.visitor) ≡ fold (steps.word_step (walks.setting l.claims) (g.V.Visitor.with_met (walks.setting l.claims))) (trail (walks.facts_in (walks.setting l.claims) l.initial.known) (g.V.Visitor.kept l.initial.visitor)) (take l.word-index l.words)
 
 abbrev pub invariant-walk_elements-loop-element : goal.invariant-walk_elements-loop-element
-invariant-walk_elements-loop-element g l = trail (walks.facts_in (walks.setting l.claims) l.inside) (g.V.Visitor.kept l.visitor) ≡ fold (steps.element_step (walks.setting l.claims) (g.V.Visitor.with_met (walks.setting l.claims)) (walks.facts_in (walks.setting l.claims) l.behind)) (trail (walks.facts_in (walks.setting l.claims) l.initial.inside) (g.V.Visitor.kept l.initial.visitor)) (take l.element-index l.elements)
+invariant-walk_elements-loop-element g l = trail (walks.facts_in (walks.setting l.claims) l.known) (g.V.Visitor.kept l.visitor) ≡ fold (steps.element_step (walks.setting l.claims) (g.V.Visitor.with_met (walks.setting l.claims)) (walks.facts_in (walks.setting l.claims) l.behind)) (trail (walks.facts_in (walks.setting l.claims) l.initial.known) (g.V.Visitor.kept l.initial.visitor)) (take l.element-index l.elements)
 
 abbrev pub invariant-walk_branches-loop-branch : goal.invariant-walk_branches-loop-branch
 invariant-walk_branches-loop-branch g l = trail (walks.facts_in (walks.setting l.claims) l.known) (g.V.Visitor.kept l.visitor) ≡ fold (steps.branch_step (walks.setting l.claims) (g.V.Visitor.with_met (walks.setting l.claims)) (walks.around (walks.setting l.claims).script l.around)) (trail (walks.facts_in (walks.setting l.claims) l.initial.known) (g.V.Visitor.kept l.initial.visitor)) (take l.branch-index l.branches)

@@ -4,7 +4,7 @@ use Rattle.sh_rules.specs.Settings.{gained}
 use Rattle.sh_rules.specs.Walks.{facts_in}
 use Rattle.sh_drafts.proofs.ReadyLemmas.{numbered}
 use Rattle.sh_sweeps.proofs.KnownLemmas.{facts_by, gains_known}
-use Rattle.sh_sweeps.proofs.known.behind_redirections.Goals as goal
+use Rattle.sh_sweeps.proofs.known.gain_redirections.Goals as goal
 
 pub returns : goal.returns
 returns c =

@@ -1,0 +1,2 @@
+pub mod LoneLemmas
+pub mod SettledLemmas
