@@ -1,5 +1,5 @@
 //! What is known at a place of a script: sets of names that are on the stack and take no memory.
-ghost use Rattle.std.specs.Prelude.{◌≡◌, ◌≤◌, ◌-◌, ℕ, List, [], ◌∷◌, true, not, length, codes};
+ghost use Rattle.std.specs.Prelude.{◌≡◌, ◌≤◌, ◌-◌, ℕ, List, [], ◌∷◌, true, false, not, length, codes};
 ghost use Rattle.std.specs.List.{list_all};
 ghost use Rattle.std.specs.Str.{bytes_eq};
 ghost use Rattle.sh_tree.specs.standard.program.Syntax.{Text};
@@ -12,6 +12,7 @@ ghost use Rattle.sh_domain.specs.Gains.{with_gains, named};
 ghost use Rattle.sh_domain.specs.Views as views;
 ghost use Rattle.sh_domain.specs.Certificates.{claim_of, drops_of, in_byte_order, names_at};
 ghost use Rattle.sh_domain.specs.Knowledge.{AreNumbered, among, assured_facts, contains, knowledge_facts};
+ghost use Rattle.sh_domain.specs.NumberSets.{numbers_of};
 ghost use Rattle.sh_domain.specs.Parameters.{with_parameters_of};
 
 use crate::certificate::{Drops, Facts};
@@ -87,25 +88,27 @@ impl Assured {
         }
     }
 
-    // The variables and the functions of these rows, and so many positional parameters.
-    fn of_rows(rows: &Rows, vars: RowId, functions: RowId, args: u16) -> Assured
-        ensures { (names : List Text) → AreNumbered names → assured_facts names result ≡ spec.facts (claim_of (in_byte_order names) rows.now (fact.Known vars functions args)) }
+    // Nothing.
+    fn none() -> Assured
+        ensures vars { (k : ℕ) → numbers_of result.vars k ≡ false }
+        ensures functions { (k : ℕ) → numbers_of result.functions k ≡ false }
     {
-        let mut assured = Assured {
+        Assured {
             vars: NumberSet::new(),
             functions: NumberSet::new(),
-            args,
-        };
-        assured.set_rows(rows, vars, functions, args);
-        assured
+            args: 0,
+        }
     }
 
-    // Becomes the variables and the functions of these rows, and so many positional parameters.
-    fn set_rows(&mut self, rows: &Rows, vars: RowId, functions: RowId, args: u16)
+    // Nothing becomes the variables and the functions of these rows, and so many positional
+    // parameters.
+    fn add_rows(&mut self, rows: &Rows, vars: RowId, functions: RowId, args: u16)
+        requires vars { (k : ℕ) → numbers_of self.old.vars k ≡ false }
+        requires functions { (k : ℕ) → numbers_of self.old.functions k ≡ false }
         ensures { (names : List Text) → AreNumbered names → assured_facts names self.new ≡ spec.facts (claim_of (in_byte_order names) rows.now (fact.Known vars functions args)) }
     {
-        self.vars.set_row(rows, vars);
-        self.functions.set_row(rows, functions);
+        self.vars.join_row(rows, vars);
+        self.functions.join_row(rows, functions);
         self.args = args;
     }
 
@@ -211,16 +214,16 @@ impl Knowledge {
         }
     }
 
-    // Becomes the variables and the functions of these rows, and so many positional parameters.
+    // Becomes the variables and the functions of these rows, and so many positional parameters. It
+    // is filled in place, since a copy takes longer.
     #[tactic(auto, unfolding(crate::specs::Knowledge::knowledge_facts))]
     fn set_rows(&mut self, rows: &Rows, vars: RowId, functions: RowId, args: u16)
         ensures { (names : List Text) → AreNumbered names → knowledge_facts names self.new ≡ spec.facts (claim_of (in_byte_order names) rows.now (fact.Known vars functions args)) }
     {
+        *self = Knowledge::Known(Assured::none());
         match self {
-            Knowledge::NotReached => {
-                *self = Knowledge::Known(Assured::of_rows(rows, vars, functions, args));
-            }
-            Knowledge::Known(assured) => assured.set_rows(rows, vars, functions, args),
+            Knowledge::NotReached => {}
+            Knowledge::Known(assured) => assured.add_rows(rows, vars, functions, args),
         }
     }
 

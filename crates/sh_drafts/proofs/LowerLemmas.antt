@@ -19,15 +19,15 @@ use Rattle.sh_domain.specs.declared.number_set.NumberSet.{NumberSet}
 use Rattle.sh_domain.specs.NumberSets.{numbers_of}
 use Rattle.sh_domain.specs.RoundTrips.{FactsPass, SetsPass}
 use Rattle.sh_drafts.specs.declared.sight.Sight.{Sight}
-use Rattle.sh_drafts.specs.Facts.{Facts, NotReached, Known, IsWithin, meet}
+use Rattle.sh_drafts.specs.Facts.{Facts, NotReached, Known, IsWithin, meet, with_args}
 use Rattle.sh_drafts.specs.Kept.{sight_facts, seen_of, fact_of, IsNamed, IsPlaced}
-use Rattle.sh_drafts.proofs.FactLemmas.{stays_there, stays_placed, stays_same, meet_numbered, met_named, meet_second, within_nowhere}
+use Rattle.sh_drafts.proofs.FactLemmas.{known_parts, stays_there, stays_placed, stays_same, meet_numbered, met_named, meet_second, within_nowhere}
 use Rattle.sh_drafts.specs.Ranks.{IsNumbered}
 use Rattle.sh_domain.specs.declared.certificate.FunctionEntry.{FunctionEntry}
 use Rattle.sh_drafts.specs.declared.place.Part.TheVariants.{Head}
 use Rattle.sh_drafts.specs.declared.place.Place.{Place}
 use Rattle.sh_drafts.specs.Gathered.{Gathered}
-use Rattle.sh_drafts.specs.Idle.{ClaimStays, DropsStay, IsIdle}
+use Rattle.sh_drafts.specs.Idle.{ClaimStays, CountStays, DropsStay, IsIdle}
 use Rattle.sh_drafts.specs.Places.{same, at, is_of_command, is_of_function, kept_at, drops_at, IsPut, IsDropped}
 use Rattle.sh_drafts.specs.Working.{Sets, sets_of, names_of, joined, claims, dropped, AreWithin, AreBelow, IsFine, AreFine, IsWorking, IsLowered, IsCounted}
 use Rattle.sh_drafts.specs.Writable.{sets_in, HasWritable, IsWritten}
@@ -241,8 +241,8 @@ module _ (names : List Text) (loops : List Bool) (m : ℕ) (old mid new : Certif
     passes = passes;
   })
 
-  pub still_works : IsPlaced (length mid.rows.rows) kept → IsNumbered (length names) known → FactsPass names mid.rows kept → IsWorking names loops m new
-  still_works placed numbered passes = record {
+  pub works_with : IsFine names new.rows kept → IsWorking names loops m new
+  works_with fine = record {
     count = ap (λ (r : KeptRows). r.count) same_rows ∙ count ∙ working.count;
     commands = put.entries ∙ ap (λ v. length v.items) entries ∙ working.commands;
     defined = put.functions ∙ ap (λ v. length v.items) functions ∙ working.defined;
@@ -254,7 +254,7 @@ module _ (names : List Text) (loops : List Bool) (m : ℕ) (old mid new : Certif
     ] ∙ ap is_some (heads_at old i) ∙ working.heads i;
     low = put.low ∙ ap (λ h. get nat_eq h 0) heads ∙ working.low;
     facts = λ q g e. elim (cases_Bool (same q p)) [
-      | inl s ↦ subst (IsFine names new.rows) (some_facts _ _ (sym put.here ∙ ap (kept_at new) (sym (place_same q p s)) ∙ e)) (fine_here placed numbered passes)
+      | inl s ↦ subst (IsFine names new.rows) (some_facts _ _ (sym put.here ∙ ap (kept_at new) (sym (place_same q p s)) ∙ e)) fine
       | inr s ↦ fine_still names old.rows new.rows g grown (working.facts q g (sym (elsewhere q s) ∙ e))
     ];
     drops = λ i d e. drops_still names old.rows new.rows d grown (working.drops i d (sym (drops_same i) ∙ e));
@@ -262,6 +262,9 @@ module _ (names : List Text) (loops : List Bool) (m : ℕ) (old mid new : Certif
     where
       some_facts : (x y : value.Facts) → Some x ≡ Some y → x ≡ y
       some_facts x y e = cc
+
+  pub still_works : IsPlaced (length mid.rows.rows) kept → IsNumbered (length names) known → FactsPass names mid.rows kept → IsWorking names loops m new
+  still_works placed numbered passes = works_with (fine_here placed numbered passes)
 
 -- If nothing is lowered
 
@@ -318,6 +321,59 @@ union_has_both mid new i kept sets before may put union = record {
 -- a claim that is lowered, and then drops that are added to
 pub both_fit : (mid new : Certificate) (may : Sets) (g : Gathered) → claims new g.place ≡ claims mid g.place → ClaimStays mid g.place g.known may → DropsStay new g.function g.sets may → IsIdle new may g
 both_fit mid new may g same claim drops = record { claim = record { within = λ f e w. claim.within f (sym same ∙ e) w }; drops = drops }
+
+-- A count that is lowered
+
+-- what a count leaves of facts that claim more
+met_args : (rows : List BitRow) (v f : RowId) (a n : ℕ) → n < a → fact_of rows (value_kind.Known v f n) ≡ meet (fact_of rows (value_kind.Known v f a)) (with_args n)
+unfolding fact_of meet
+met_args rows v f a n less =
+    let vars : holds_at rows v.index ≡ (λ k. holds_at rows v.index k && true) = fun_ext (λ k. both (holds_at rows v.index k)) in
+    let functions : holds_at rows f.index ≡ (λ k. holds_at rows f.index k && true) = fun_ext (λ k. both (holds_at rows f.index k)) in
+    let count : n ≡ min a n = omega (arith, less) in
+    ap₂ (λ (x y : ℕ → Bool). Known x y n) vars functions ∙ ap (Known (λ k. holds_at rows v.index k && true) (λ k. holds_at rows f.index k && true)) count
+  where
+    both : (b : Bool) → b ≡ (b && true)
+    both true = refl
+    both false = refl
+
+more_args : (rows : List BitRow) (v f : RowId) (a n : ℕ) → n < a → ¬ (IsWithin (fact_of rows (value_kind.Known v f a)) (with_args n))
+unfolding fact_of
+more_args rows v f a n less = λ w. let few = (known_parts _ _ _ _ _ _ w).args in omega (arith, less, few)
+
+fine_args : (names : List Text) (rows : KeptRows) (v f : RowId) (a n : ℕ) → n < a → IsFine names rows (value_kind.Known v f a) → IsFine names rows (value_kind.Known v f n)
+unfolding IsPlaced fact_of IsNumbered FactsPass
+fine_args names rows v f a n less fine =
+    let most = fine.numbered.args in
+    let written = fine.passes.1 in
+    record {
+      placed = fine.placed;
+      numbered = record { vars = fine.numbered.vars; functions = fine.numbered.functions; args = omega (arith, less, most) };
+      passes = (fine.passes.0, omega (arith, less, written));
+    }
+
+module _ (old new : Certificate) (p : Place) (v f : RowId) (a n : ℕ) (is : kept_at old p ≡ Some (value_kind.Known v f a)) (less : n < a) (put : IsPut old new p (value_kind.Known v f n)) where
+  pub args_lowered : (names : List Text) (loops : List Bool) (m : ℕ) → IsWorking names loops m old → IsLowered old new p (with_args n) true
+  args_lowered names loops m working =
+      is_lowered names loops m old old new p (value_kind.Known v f a) (value_kind.Known v f n) (with_args n) is (λ i l. refl) refl refl refl refl put (met_args old.rows.rows v f a n less) working (more_args old.rows.rows v f a n less)
+
+  pub args_work : (names : List Text) (loops : List Bool) (m : ℕ) → IsWorking names loops m old → IsWorking names loops m new
+  args_work names loops m working =
+      works_with names loops m old old new p (value_kind.Known v f a) (value_kind.Known v f n) (with_args n) is (λ i l. refl) refl refl refl refl put (met_args old.rows.rows v f a n less) working
+      (subst (λ (r : KeptRows). IsFine names r (value_kind.Known v f n)) (sym put.rows) (fine_args names old.rows v f a n less (working.facts p (value_kind.Known v f a) is)))
+
+-- no more than a count
+
+pub nothing_more : (c : Certificate) (p : Place) (n : ℕ) → kept_at c p ≡ None → CountStays c p n
+nothing_more c p n is = record { few = λ v f a e. absurd (nothing_claimed c p None (sym is) refl (Known v f a) e) }
+
+pub nowhere_more : (c : Certificate) (p : Place) (n : ℕ) → kept_at c p ≡ Some value_kind.NotReached → CountStays c p n
+unfolding fact_of is_reached
+nowhere_more c p n is = record { few = λ v f a e. absurd (true≢false (sym (ap is_reached (claimed_is c p value_kind.NotReached is (Known v f a) e)))) }
+
+pub no_more : (c : Certificate) (p : Place) (v f : RowId) (a n : ℕ) → kept_at c p ≡ Some (value_kind.Known v f a) → a ≤ n → CountStays c p n
+unfolding fact_of args_of
+no_more c p v f a n is few = record { few = λ w g b e. let same : a ≡ b = ap args_of (claimed_is c p (value_kind.Known v f a) is (Known w g b) e) in omega (arith, few, same) }
 
 -- Drops that are added to
 

@@ -29,6 +29,10 @@ claims (Known v f a) (Parameters n) = nat_le n a
 pub record IsWithin (f g : Facts) : Type 0 where
   pub claimed : (x : Atom) → claims f x ≡ true → claims g x ≡ true
 
+-- all names, and so many parameters: what leaves no more of a claim than so many
+abbrev pub with_args : ℕ → Facts
+with_args a = Known (λ x. true) (λ x. true) a
+
 -- what both claim
 unfoldable pub meet : Facts → Facts → Facts
 meet NotReached g = g

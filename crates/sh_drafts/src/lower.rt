@@ -1,12 +1,14 @@
-//! Lowers what a certificate claims at a place to what is known there, and adds to what a function
-//! may drop.
+//! Lowers what a certificate claims at a place to what is known there, or its count alone, and adds
+//! to what a function may drop.
 ghost use Rattle.std.specs.Prelude.{◌≡◌, ◌<◌, ◌≤◌, ℕ, List, Bool, true, false, length, Some, IfOk};
+ghost use Rattle.sh_tree.specs.standard.program.Syntax.{Text};
 ghost use Rattle.sh_tree.specs.declared.limits.TheConstants.{MAX_NAMES};
 ghost use Rattle.sh_domain.specs.KeptRows.{Stay};
+ghost use Rattle.sh_drafts.specs.Facts.{with_args};
 ghost use Rattle.sh_drafts.specs.Kept.{seen_of, sight_facts, IsNamed};
 ghost use Rattle.sh_domain.specs.declared.certificate.Drops as drops;
 ghost use Rattle.sh_drafts.specs.Places.{drops_at};
-ghost use Rattle.sh_drafts.specs.Idle.{ClaimStays, DropsStay};
+ghost use Rattle.sh_drafts.specs.Idle.{ClaimStays, CountStays, DropsStay};
 ghost use Rattle.sh_drafts.specs.Working.{AreBelow, AreFine, AreWithin, IsCounted, IsLowered, IsWorking, sets_of};
 ghost use Rattle.sh_drafts.specs.Writable.{IsWritten, sets_in};
 
@@ -110,6 +112,47 @@ pub fn lower_known(
     match known {
         None => Ok(false),
         Some(sight) => lower(names, writable, certificate, probe, place, sight),
+    }
+}
+
+/// Puts the count of parameters that is claimed at a place to this one, if that is less; says
+/// whether it did. The rows stay, so it takes no memory for them, whatever names they have.
+///
+/// # Errors
+///
+/// If a growth was refused.
+pub fn lower_args(
+    certificate: &mut Certificate,
+    place: Place,
+    args: u16,
+) -> Result<bool, AllocError>
+    ensures lowered { IfOk result (λ changed. (names : List Text) (loops : List Bool) (functions : ℕ) → IsWorking names loops functions certificate.old
+        → IsLowered certificate.old certificate.new place (with_args args) changed) }
+    ensures working { IfOk result (λ changed. (names : List Text) (loops : List Bool) (functions : ℕ) → IsWorking names loops functions certificate.old
+        → IsWorking names loops functions certificate.new) }
+    ensures fits { IfOk result (λ changed. CountStays certificate.new place args) }
+{
+    let Some(facts) = facts_at(certificate, place) else {
+        return Ok(false);
+    };
+    match facts {
+        Facts::NotReached => Ok(false),
+        Facts::Known {
+            vars,
+            functions,
+            args: claimed,
+        } => {
+            if claimed <= args {
+                return Ok(false);
+            }
+            let fewer = Facts::Known {
+                vars,
+                functions,
+                args,
+            };
+            put(certificate, place, fewer)?;
+            Ok(true)
+        }
     }
 }
 

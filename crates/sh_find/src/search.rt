@@ -48,8 +48,8 @@ fn wake_loops(subject: &Subject<'_>, waiting: &mut Waiting) -> Result<(), AllocE
     Ok(())
 }
 
-// Solves the counts apart, if they fell often, or a loop was left while they fell. The commands at
-// which one was lowered wait, and all loops.
+// Solves the counts apart, if they fell often, or a loop was left while they fell. Then all loops
+// wait. No set of names depends on a count, so other commands do not.
 fn rest_counts(subject: &Subject<'_>, draft: &mut Draft) -> Result<(), AllocError>
     requires { IsReady subject.now draft.old.certificate draft.old.probe.count }
     ensures { IfOk result (λ unit. IsSwept subject.now draft.old.certificate draft.new.certificate draft.new.probe.count) }

@@ -225,7 +225,7 @@ pub fn sweep_waiting(subject: &Subject<'_>, draft: &mut Draft) -> Result<(), All
     ensures { IfOk result (λ unit. IsSwept subject.now draft.old.certificate draft.new.certificate draft.new.probe.count) }
 {
     for _unit in 0..u32::MAX {
-        let Some(unit) = draft.waiting.units.next()? else {
+        let Some(unit) = draft.waiting.next_unit(draft.alloc, subject.table)? else {
             return Ok(());
         };
         sweep_unit(subject, draft, unit)?;

@@ -17,7 +17,7 @@ use crate::sweep::{sweep_items, sweep_list};
 use crate::words::{pass_word, sweep_patterns};
 use sh_domain::{FlowRule, Knowledge};
 use sh_drafts::{Draft, Subject};
-use sh_rules::{Around, begun, met};
+use sh_rules::{Around, begun, meet};
 use sh_tree::{Branch, Clause, Script, Word};
 use std::alloc::AllocError;
 
@@ -204,7 +204,8 @@ fn sweep_body(
         → AreClauses subject.now (walks.around subject.now.script.now around.now) (knowledge_facts subject.now.names.now behind.now) (knowledge_facts subject.now.names.now fallen.old) (clauses_from subject.now.script.now (clause.now ∷ others))
         → AreClauses subject.now (walks.around subject.now.script.now around.now) (knowledge_facts subject.now.names.now behind.now) (knowledge_facts subject.now.names.now fallen.new) (clauses_from subject.now.script.now others)) }
 {
-    let known = met(behind, &*fallen);
+    let mut known = *behind;
+    meet(&mut known, &*fallen);
     let mut course = begun(FlowRule::F9, &known);
     sweep_items(
         subject,

@@ -3,6 +3,7 @@
 
 mod bodies;
 mod choices;
+mod news;
 mod own;
 mod rounds;
 mod sweep;

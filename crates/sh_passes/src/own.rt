@@ -1,5 +1,6 @@
 //! Lowers a command by what it asks itself, and not by what the commands in it ask.
-ghost use Rattle.std.specs.Prelude.{◌≡◌, ℕ, true, length, IfOk};
+ghost use Rattle.std.specs.Prelude.{◌≡◌, ℕ, List, true, length, IfOk};
+ghost use Rattle.sh_tree.specs.standard.program.Syntax.{Text};
 ghost use Rattle.sh_domain.specs.Knowledge.{knowledge_facts};
 ghost use Rattle.sh_domain.specs.Sheets.{Sheet};
 ghost use Rattle.sh_rules.specs.Steps.{met_in};
@@ -200,21 +201,11 @@ pub fn lower_head(
     Ok(())
 }
 
-// What the flow rules ask at a command, gathered for both places after it.
-fn asked_behind(
-    subject: &Subject<'_>,
-    certificate: &Certificate,
-    by: FlowRule,
-    around: &Around<'_>,
-    known: &Knowledge,
-    command: &Command,
-    index: u16,
-) -> Sides
-    requires ready { (probed : ℕ) × IsReady subject.now certificate.now probed }
-    requires placed { IsCommand subject.now by (walks.around subject.now.script.now around.now) (knowledge_facts subject.now.names.now known.now) command.now }
-    ensures numbers { AreNumbersBeside (length subject.now.names.now) (sided_of result) }
-    ensures quiet { subject.now.stated ≡ true → IsQuietBeside (sided_of result) }
-    ensures stands { (other : Sheet) → Keeps subject.now other → StandsBeside subject.now.names.now other (sided_of result) }
+// Nothing was asked yet of both places after the command of an index.
+fn both_places(index: u16) -> Sides
+    ensures numbers { (names : ℕ) → AreNumbersBeside names (sided_of result) }
+    ensures quiet { IsQuietBeside (sided_of result) }
+    ensures stands { (names : List Text) (other : Sheet) → StandsBeside names other (sided_of result) }
 {
     let part = Part::Zero;
     let place = Place { part, index };
@@ -222,13 +213,33 @@ fn asked_behind(
     let part = Part::Nonzero;
     let place = Place { part, index };
     let gather = Gather::new(target);
-    let mut sides = Sides {
+    Sides {
         gather,
         place,
         known: None,
-    };
-    tell(subject, certificate, by, around, known, command, &mut sides);
-    sides
+    }
+}
+
+// Gathers for both places what the flow rules ask at a command.
+fn ask_behind(
+    subject: &Subject<'_>,
+    certificate: &Certificate,
+    by: FlowRule,
+    around: &Around<'_>,
+    known: &Knowledge,
+    command: &Command,
+    sides: &mut Sides,
+)
+    requires ready { (probed : ℕ) × IsReady subject.now certificate.now probed }
+    requires placed { IsCommand subject.now by (walks.around subject.now.script.now around.now) (knowledge_facts subject.now.names.now known.now) command.now }
+    requires numbers { AreNumbersBeside (length subject.now.names.now) (sided_of sides.old) }
+    requires quiet { IsQuietBeside (sided_of sides.old) }
+    requires stands { (other : Sheet) → StandsBeside subject.now.names.now other (sided_of sides.old) }
+    ensures numbers { AreNumbersBeside (length subject.now.names.now) (sided_of sides.new) }
+    ensures quiet { subject.now.stated ≡ true → IsQuietBeside (sided_of sides.new) }
+    ensures stands { (other : Sheet) → Keeps subject.now other → StandsBeside subject.now.names.now other (sided_of sides.new) }
+{
+    tell(subject, certificate, by, around, known, command, sides);
 }
 
 // Lowers what is claimed at the first of two places, and what a function may drop, by what was
@@ -283,14 +294,15 @@ fn lower_sides(
     requires placed { IsCommand subject.now by (walks.around subject.now.script.now around.now) (knowledge_facts subject.now.names.now known.now) command.now }
     ensures swept { IfOk result (λ answer. IsSwept subject.now draft.old.certificate draft.new.certificate draft.new.probe.count) }
 {
-    let sides = asked_behind(
+    let mut sides = both_places(index);
+    ask_behind(
         subject,
         &draft.certificate,
         by,
         around,
         known,
         command,
-        index,
+        &mut sides,
     );
     draft.looks = draft.looks.saturating_add(1);
     if sides.gather.kept {

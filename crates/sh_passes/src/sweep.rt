@@ -20,13 +20,14 @@ ghost use Rattle.sh_drafts.specs.Ready.{IsReady, IsSwept};
 
 use crate::bodies::{is_called_again, sweep_called};
 use crate::choices::{sweep_case, sweep_cond};
+use crate::news::News;
 use crate::own::{lower_behind, lower_command};
 use crate::rounds::sweep_rounds;
 use crate::words::{sweep_elements, sweep_for_words, sweep_redirections};
 use sh_domain::{FlowRule, Knowledge};
 use sh_drafts::inner::is_in_elements;
 use sh_drafts::{Draft, Subject};
-use sh_rules::{Around, Behind, Course, alone, begun, in_function, is_settled};
+use sh_rules::{Around, Behind, Course, alone, begun, in_function, meet};
 use sh_sweeps::known::{
     behind_pipe, entry_of, head_of, inside_of, pass_all, pass_link, pass_on, process_of,
     started_in, turn_of,
@@ -64,36 +65,26 @@ pub fn sweep_items(
     ensures behind { IfOk result (λ unit. (o : After) → KnowsBehind subject.now o (known_behind subject.now course.old.behind)
         → KnowsBehind subject.now (items_after o (items_from subject.now.script.now items.now)) (known_behind subject.now course.new.behind)) }
 {
-    let mut is_new = true;
+    let mut news = News::Anything;
     let mut place = 0;
     while place < items.len() {
-        let next = pass_idle(subject, &*draft, course, is_new, items, place);
-        let passed = looks_between(is_new, &items[place..next]);
+        let next = pass_idle(subject, &*draft, course, news, items, place);
+        let passed = news.looks_at(&items[place..next]);
         draft.looks = draft.looks.saturating_add(passed);
         place = next + 1;
         let item = &items[next];
-        is_new = sweep_or_pass(subject, draft, levels, around, course, is_new, item)?;
+        news = sweep_or_pass(subject, draft, levels, around, course, news, item)?;
     }
     Ok(())
 }
 
-// How many looks it took to go on after these items: those over which what is known was carried are
-// looks too, and so are those after the last that settles what is known.
-fn looks_between(is_new: bool, items: &[Item]) -> u64 {
-    if is_new {
-        return items.len() as u64;
-    }
-    let settled = items.iter().rev().position(|item| is_settled(item));
-    settled.unwrap_or(items.len()) as u64
-}
-
-// Goes on after the items from a place on that do not wait, if nothing is new before them, or else
-// after those over which what is known is carried. Gives the place of the next one.
+// Goes on after the items from a place on that do not wait, if what is new is nothing new to them,
+// or else after those over which what is known is carried. Gives the place of the next one.
 fn pass_idle(
     subject: &Subject<'_>,
     draft: &Draft,
     course: &mut Course,
-    is_new: bool,
+    news: News,
     items: &[Item],
     place: usize,
 ) -> usize
@@ -104,23 +95,17 @@ fn pass_idle(
     ensures there { result < length items.now }
     ensures passed { ArePassed subject.now course.old course.new (take (result - place) (drop place items.now)) }
 {
-    if is_new {
+    if news == News::Anything {
         return carry_over(subject, draft, course, items, place);
     }
-    let next = next_place(&draft.waiting, items, place);
+    let waits = next_place(&draft.waiting, items, place);
+    let next = news.place_of(items, place, waits);
     pass_all(subject, &draft.certificate, course, &items[place..next]);
     next
 }
 
-// Whether what is new before an item may be new after it, though nothing fell in it: a hint. It is
-// entered with all that is known, except that processes have no `!`. One that goes on beside the
-// shell sets `!`.
-fn keeps_news(subject: &Subject<'_>, item: &Item) -> bool {
-    !item.background && !is_settled(item) && subject.names.number(b"!").is_some()
-}
-
-// Goes on after an item, and lowers the certificate at its commands if what is known before them is
-// new or one of them waits. Reports whether what is known after it is new: a hint.
+// Goes on after an item, and lowers the certificate at its commands if something is new to them or
+// one of them waits. Reports what is new after it: a hint.
 #[cycle(sweep)]
 fn sweep_or_pass(
     subject: &Subject<'_>,
@@ -128,24 +113,27 @@ fn sweep_or_pass(
     levels: u32,
     around: &Around<'_>,
     course: &mut Course,
-    is_new: bool,
+    news: News,
     item: &Item,
-) -> Result<bool, AllocError>
+) -> Result<News, AllocError>
     requires ready { IsReady subject.now draft.old.certificate draft.old.probe.count }
     requires placed { (others : List tree.Item) × AreItems subject.now course.old.by (walks.around subject.now.script.now around.now) (known_behind subject.now course.old.behind) (item.now ∷ others) }
-    ensures swept { IfOk result (λ is_new. IsSwept subject.now draft.old.certificate draft.new.certificate draft.new.probe.count) }
-    ensures passed { IfOk result (λ is_new. IsPassed subject.now course.old course.new item.now) }
+    ensures swept { IfOk result (λ news. IsSwept subject.now draft.old.certificate draft.new.certificate draft.new.probe.count) }
+    ensures passed { IfOk result (λ news. IsPassed subject.now course.old course.new item.now) }
 {
     // Each link is a look too, so that rounds which pass by long lists are noticed.
     let links = item.list.rest.as_slice().len() as u64;
     draft.looks = draft.looks.saturating_add(links);
-    if !is_new && !does_item_wait(&draft.waiting, item) {
+    if news.passes(item) && !does_item_wait(&draft.waiting, item) {
         pass_on(subject, &draft.certificate, course, item);
-        return Ok(false);
+        return Ok(news.after(item));
     }
     let before = draft.lowered;
     sweep_item(subject, draft, levels, around, course, item)?;
-    Ok(draft.lowered != before || (is_new && keeps_news(subject, item)))
+    if draft.lowered != before {
+        return Ok(News::Anything);
+    }
+    Ok(news.after(item))
 }
 
 // Lowers the certificate at the commands of an item, and goes on after it.
@@ -182,7 +170,8 @@ fn enter_item(
     requires placed { (others : List tree.Item) × AreItems subject.now course.now.by (walks.around subject.now.script.now around.now) (known_behind subject.now course.now.behind) (item.now ∷ others) }
     ensures swept { IfOk result (λ unit. IsSwept subject.now draft.old.certificate draft.new.certificate draft.new.probe.count) }
 {
-    let seen = course.behind.in_any_case();
+    let mut seen = course.behind.zero;
+    meet(&mut seen, &course.behind.nonzero);
     if item.background {
         return enter_process(subject, draft, levels, &seen, &item.list);
     }

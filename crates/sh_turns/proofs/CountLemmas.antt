@@ -1,10 +1,9 @@
 -- Counts that are solved apart stay above those of each certificate that keeps the rules.
-use Rattle.std.proofs.Common.{◌≡◌, ℕ, zero, suc, ◌+◌, ◌-◌, ◌*◌, ◌<◌, ◌≤◌, min, not, Bool, true, false, Option, Some, None, option_map, List, [], ◌∷◌, ◌++◌, length, flat_map, get_or, is_some, refl, sym, ap, ap₂, ◌∙◌, subst, arith, rules, true≢false}
-use Rattle.std.specs.Prelude.{IfSome, nat_lt, unwrap_or, option_and_then}
+use Rattle.std.proofs.Common.{◌≡◌, ℕ, zero, suc, ◌+◌, ◌-◌, ◌*◌, ◌<◌, ◌≤◌, min, not, Bool, true, false, Option, Some, None, option_map, List, [], ◌∷◌, ◌++◌, length, flat_map, get_or, is_some, refl, sym, ap, ap₂, ◌∙◌, subst, arith, true≢false}
+use Rattle.std.specs.Prelude.{IfSome, unwrap_or, option_and_then}
 use Rattle.std.specs.List.{list_all}
 use Rattle.std.proofs.lemmas.Bool.{and_parts}
 use Rattle.std.proofs.lemmas.Nat.{div-mul-add, mod-mul-add}
-use Rattle.std.proofs.lemmas.Option.{slice_get_within}
 use Rattle.sh_tree.specs.declared.tree.Script.{Script}
 use Rattle.sh_tree.specs.standard.program.Syntax as p
 use Rattle.sh_tree.specs.standard.program.Syntax.{Text}
@@ -27,7 +26,7 @@ use Rattle.sh_domain.specs.Sheets.{Sheet, claim_at}
 use Rattle.sh_domain.specs.Views as views
 use Rattle.sh_domain.specs.Views.{Slot}
 use Rattle.sh_domain.proofs.EachLemmas.{each_passes, each_weaker}
-use Rattle.sh_domain.proofs.KnowledgeLemmas.{has_number, one_number, stands_there}
+use Rattle.sh_domain.proofs.KnowledgeLemmas.{has_number, one_number}
 use Rattle.sh_domain.proofs.OrderLemmas.{among_all, known_parts, known_within, nowhere_known}
 use Rattle.sh_gains.proofs.TextLemmas.{has_texts, own_texts, table_texts}
 use Rattle.sh_rules.proofs.PrefixLemmas.{table_defines}
@@ -45,10 +44,10 @@ use Rattle.sh_drafts.specs.declared.place.Place.{Place}
 use Rattle.sh_drafts.specs.declared.subject.Subject.{Subject}
 use Rattle.sh_turns.specs.Counts.{AreClaimed, AreOverAll, AreUnsure, IsUnsure, args_at, args_of, count_place, index_by, may_lack, part_by, ranked_place}
 use Rattle.sh_drafts.specs.Facts as number
-use Rattle.sh_drafts.specs.Kept.{IsNamed, fact_of}
+use Rattle.sh_drafts.specs.Kept.{fact_of}
 use Rattle.sh_drafts.specs.Numbers.{by_name, named}
 use Rattle.sh_drafts.specs.Places.{at, claim_there, kept_at, place_of}
-use Rattle.sh_drafts.specs.Ranks.{IsNumbered, most}
+use Rattle.sh_drafts.specs.Ranks.{IsNumbered}
 use Rattle.sh_drafts.specs.Stated.{asked_bounds}
 use Rattle.sh_drafts.specs.Starts.{start_of}
 use Rattle.sh_drafts.specs.Ready.{IsReady, Keeps}
@@ -93,35 +92,19 @@ claimed_more c cs new o n sized pushed are one =
 
 -- All names, and so many parameters
 
-module _ (names : List Text) (n : ℕ) (v : ℕ → Bool) (a : ℕ) (all : (k : ℕ) → v k ≡ nat_lt k n) (sized : n ≡ length names) where
-  below : (k : ℕ) → v k ≡ true → k < length names
-  below k e = subst (λ m. k < m) sized (less k n (sym (all k) ∙ e))
-    where
-      less : (x m : ℕ) → nat_lt x m ≡ true → x < m
-      less x m e = search (rules, e)
-
-  pub all_named : IsNamed (length names) (number.Known v v a)
-  unfolding IsNamed
-  all_named = record { vars = below; functions = below }
-
-  in_all : (x : Text) → is_one_of names x ≡ true → at_number v (number_of names x) ≡ true
+module _ (names : List Text) where
+  in_all : (x : Text) → is_one_of names x ≡ true → at_number (λ k. true) (number_of names x) ≡ true
   unfolding at_number
   in_all x e = by (number_of names x) refl
     where
-      more : (k : ℕ) → k < length names → v k ≡ true
-      more k l = all k ∙ is_less k n (subst (λ m. k < m) (sym sized) l)
-        where
-          is_less : (x m : ℕ) → x < m → nat_lt x m ≡ true
-          is_less x m l = search (rules, l)
-
-      by : (o : Option ℕ) → number_of names x ≡ o → at_number v o ≡ true
+      by : (o : Option ℕ) → number_of names x ≡ o → at_number (λ k. true) o ≡ true
       by None is = absurd (true≢false (sym e ∙ has_number names x ∙ ap is_some is))
-      by (Some k) is = more k (slice_get_within names k x (stands_there names k x is))
+      by (Some k) is = refl
 
-  pub all_over : (c : Claim) → claim_fits names c ≡ true → HasAtMost a (facts c) → IsWithin (facts c) (by_name names (number.Known v v a))
+  pub all_over : (a : ℕ) (c : Claim) → claim_fits names c ≡ true → HasAtMost a (facts c) → IsWithin (facts c) (by_name names (number.with_args a))
   unfolding claim_fits facts HasAtMost by_name
-  all_over Unreached fits few = absurd few
-  all_over (Claimed vs fs b) fits few =
+  all_over a Unreached fits few = absurd few
+  all_over a (Claimed vs fs b) fits few =
       let both = and_parts (list_all (is_one_of names) vs) (list_all (is_one_of names) fs) fits in
       known_within _ _ _ _ b a (λ x e. in_all x (among_all (is_one_of names) vs both.0 x e)) (λ x e. in_all x (among_all (is_one_of names) fs both.1 x e)) few
 

@@ -1,22 +1,15 @@
 //! The counts of positional parameters are solved apart from the sets of names (XCU 2.5.1).
 ghost use Rattle.std.specs.Prelude.{◌≡◌, ℕ, true, false, length, get_or, Option, Some, None, IfOk, IfSome};
-ghost use Rattle.sh_domain.specs.Facts as domain;
-ghost use Rattle.sh_domain.specs.Knowledge.{AreNumbered};
-ghost use Rattle.sh_domain.specs.Order.{IsWithin};
-ghost use Rattle.sh_domain.specs.Reading.{claim_fits};
 ghost use Rattle.sh_counts.specs.Equations.{worth};
-ghost use Rattle.sh_tally.specs.Counts.{HasAtMost};
 ghost use Rattle.sh_turns.specs.Counts as spec;
 ghost use Rattle.sh_turns.specs.Counts.{AreClaimed, AreOverAll, AreUnsure, HasAtMostThere, count_place};
-ghost use Rattle.sh_drafts.specs.Kept.{IsNamed, sight_facts};
-ghost use Rattle.sh_drafts.specs.Numbers.{by_name};
 ghost use Rattle.sh_drafts.specs.Ready.{IsReady, IsSwept};
 
 use crate::unsure::unsure_of;
-use sh_domain::{Certificate, Facts, Names, NumberSet};
+use sh_domain::{Certificate, Facts};
 use sh_drafts::kept::facts_at;
-use sh_drafts::lower::lower;
-use sh_drafts::{Draft, Part, Place, Sight, Subject, fitting, note_place};
+use sh_drafts::lower::lower_args;
+use sh_drafts::{Draft, Part, Place, Subject, fitting, note_place};
 use sh_tally::{Places, Tally};
 use std::alloc::{AllocError, Global};
 
@@ -97,21 +90,13 @@ fn counts_of(alloc: Global, certificate: &Certificate) -> Result<Vec<Option<u16>
     Ok(counts)
 }
 
-// All names, and so many parameters.
-fn with_args(names: &Names, args: u16) -> Sight
-    requires { AreNumbered names.now }
-    ensures named { IsNamed (length names.now) (sight_facts result) }
-    ensures over { (c : domain.Claim) → claim_fits names.now c ≡ true → HasAtMost args (domain.facts c) → IsWithin (domain.facts c) (by_name names.now (sight_facts result)) }
-{
-    let all = NumberSet::below(names.count());
-    Sight {
-        vars: all,
-        functions: all,
-        args,
-    }
+// Whether the command of an index is a `return`: a hint.
+fn is_return(subject: &Subject<'_>, index: u16) -> bool {
+    matches!(subject.table.text(index as u32 + 1, 0), Some(b"return"))
 }
 
-// Has the command of a place wait, if the count there was lowered.
+// Notes whether the count at a place was lowered. No equation says what a `return` hands on, so it
+// waits if its own was.
 fn note_solved(
     subject: &Subject<'_>,
     draft: &mut Draft,
@@ -122,7 +107,7 @@ fn note_solved(
     ensures probe { draft.new.probe ≡ draft.old.probe }
 {
     note_place(subject, draft, place, None, is_lowered)?;
-    if is_lowered && !place.part.is_of_function() {
+    if is_lowered && place.part == Part::Before && is_return(subject, place.index) {
         draft.waiting.wait(place.index as u32 + 1)?;
     }
     Ok(())
@@ -140,15 +125,7 @@ fn lower_count(
     requires over { HasAtMostThere subject.now args place }
     ensures { IfOk result (λ unit. IsSwept subject.now draft.old.certificate draft.new.certificate draft.new.probe.count) }
 {
-    let known = with_args(subject.names, args);
-    let is_lowered = lower(
-        subject.names,
-        subject.writable,
-        &mut draft.certificate,
-        &mut draft.probe,
-        place,
-        &known,
-    )?;
+    let is_lowered = lower_args(&mut draft.certificate, place, args)?;
     note_solved(subject, draft, place, is_lowered)?;
     Ok(())
 }
@@ -173,7 +150,7 @@ fn solved_at(counts: &[u16], count: usize) -> u16
     }
 }
 
-// Lowers a count, if a run comes to its place.
+// Lowers a count, if a run comes to its place and more is claimed there.
 fn lower_claimed(
     subject: &Subject<'_>,
     draft: &mut Draft,
@@ -186,13 +163,16 @@ fn lower_claimed(
     requires over { (a : ℕ) → get_or claimed.now count None ≡ Some a → HasAtMostThere subject.now (worth counts.now count) (count_place count) }
     ensures { IfOk result (λ unit. IsSwept subject.now draft.old.certificate draft.new.certificate draft.new.probe.count) }
 {
-    let Some(_args) = claim_at(claimed, count) else {
-        return Ok(());
-    };
-    let Some(place) = place_of_count(count) else {
+    let Some(most) = claim_at(claimed, count) else {
         return Ok(());
     };
     let args = solved_at(counts, count);
+    if most <= args {
+        return Ok(());
+    }
+    let Some(place) = place_of_count(count) else {
+        return Ok(());
+    };
     lower_count(subject, draft, place, args)
 }
 

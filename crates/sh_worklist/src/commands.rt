@@ -107,8 +107,8 @@ impl Commands {
         }
     }
 
-    // Where a command is.
-    fn place(&self, command: u32) -> Inside
+    /// Where a command is.
+    pub fn place(&self, command: u32) -> Inside
         ensures { result ≡ place_in self.now.places.items command }
     {
         match self.places.get(command as usize) {

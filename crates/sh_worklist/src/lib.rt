@@ -5,6 +5,7 @@ mod calls;
 mod commands;
 mod flags;
 mod news;
+mod order;
 mod units;
 mod waiting;
 

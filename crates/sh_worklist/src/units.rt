@@ -6,7 +6,9 @@ ghost use Rattle.sh_worklist.specs.Flags.{is_in, limit_of};
 ghost use Rattle.sh_worklist.specs.Units.{does_wait, gives_outside, limit, number_of};
 ghost use Rattle.sh_worklist.specs.Units as units;
 
+use crate::commands::Commands;
 use crate::flags::Flags;
+use crate::order::in_order;
 use sh_table::CallTable;
 use std::alloc::{AllocError, Global};
 
@@ -36,8 +38,9 @@ enum Rank {
 
 /// Which units wait, each at most once, and in which order they are next.
 ///
-/// The first pass goes depth first along calls. Its ends are the order of the bodies. Bodies that
-/// wait later are taken upwards in this order, then downwards.
+/// The first pass goes depth first along calls that are reached. Its ends are the order of the
+/// bodies until they are put in order by all calls. Bodies that wait later are taken upwards in
+/// this order, then downwards.
 #[derive(Drop)]
 pub struct Units {
     // By the numbers of definitions, and by 0 the commands outside.
@@ -52,6 +55,10 @@ pub struct Units {
     ranked: Flags,
     cursor: u32,
     is_rising: bool,
+    // No call goes again over a body whose place is below this.
+    once: u32,
+    // If there are more bodies in the order, they are put in order anew.
+    most: usize,
 }
 
 impl Units {
@@ -76,6 +83,8 @@ impl Units {
             ranked: Flags::none(alloc, count)?,
             cursor: 0,
             is_rising: true,
+            once: 0,
+            most: 0,
         })
     }
 
@@ -150,11 +159,15 @@ impl Units {
         self.unseen.has(definition)
     }
 
-    /// Whether a body waits over which a pass has ended.
+    /// Whether a body waits over which a pass has ended, and a call may go over it again. None may
+    /// that was put in order until that was gone up once: what it calls comes before it there.
     pub fn waits_again(&self, definition: u32) -> bool
         ensures { IsTrue result → does_wait self.now definition ≡ true }
     {
-        matches!(self.rank(definition), Rank::At(_)) && self.waiting.has(definition)
+        match self.rank(definition) {
+            Rank::At(rank) => rank >= self.once && self.waiting.has(definition),
+            Rank::Unseen | Rank::Begun => false,
+        }
     }
 
     /// A pass over a body begins. The body waits no longer.
@@ -235,6 +248,43 @@ impl Units {
         Ok(None)
     }
 
+    // Places the bodies anew that had a place.
+    fn place_anew(&mut self, alloc: Global, order: &[u32]) -> Result<(), AllocError>
+        ensures waiting { self.new.waiting ≡ self.old.waiting }
+        ensures unseen { self.new.unseen ≡ self.old.unseen }
+    {
+        self.order.clear();
+        self.ranked = Flags::none(alloc, self.ranks.len())?;
+        for definition in order {
+            if matches!(self.rank(*definition), Rank::At(_)) {
+                self.place(*definition)?;
+            }
+        }
+        Ok(())
+    }
+
+    // Puts the bodies in the order of their calls, if there are more than twice as many as before.
+    fn put_in_order(
+        &mut self,
+        alloc: Global,
+        table: &CallTable<'_>,
+        commands: &Commands,
+    ) -> Result<(), AllocError>
+        ensures waiting { self.new.waiting ≡ self.old.waiting }
+        ensures unseen { self.new.unseen ≡ self.old.unseen }
+    {
+        if self.order.len() <= self.most {
+            return Ok(());
+        }
+        let order = in_order(alloc, table, commands)?;
+        self.place_anew(alloc, order.as_slice())?;
+        self.most = self.order.len().saturating_mul(2);
+        self.cursor = 0;
+        self.is_rising = true;
+        self.once = u32::try_from(self.order.len()).unwrap_or(u32::MAX);
+        Ok(())
+    }
+
     // The place in the order of the next body that waits, in the direction of the last one.
     fn ahead(&self) -> Option<u32> {
         if self.is_rising {
@@ -251,6 +301,7 @@ impl Units {
     {
         if self.ahead().is_none() {
             self.is_rising = !self.is_rising;
+            self.once = 0;
         }
         let place = self.ahead()?;
         self.cursor = place;
@@ -272,7 +323,12 @@ impl Units {
     /// # Errors
     ///
     /// If a growth was refused.
-    pub fn next(&mut self) -> Result<Option<Unit>, AllocError>
+    pub fn next(
+        &mut self,
+        alloc: Global,
+        table: &CallTable<'_>,
+        commands: &Commands,
+    ) -> Result<Option<Unit>, AllocError>
         ensures outside { gives_outside result ≡ true → does_wait self.old 0 ≡ true }
         ensures taken { (k : ℕ) → does_wait self.new k ≡ (not (gives_outside result && (k == 0)) && does_wait self.old k) }
         ensures limit { limit self.new ≡ limit self.old }
@@ -286,6 +342,7 @@ impl Units {
         if let Some(definition) = self.next_found()? {
             return Ok(Some(Unit::Body(definition)));
         }
+        self.put_in_order(alloc, table, commands)?;
         if let Some(definition) = self.next_ranked() {
             return Ok(Some(Unit::Body(definition)));
         }

@@ -1,5 +1,5 @@
 //! The commands and the units that wait, since something that they look at fell.
-ghost use Rattle.std.specs.Prelude.{◌≡◌, ◌<◌, ◌≤◌, ◌+◌, ◌==◌, ◌&&◌, ◌||◌, ℕ, true, not, nat_lt, length, slice_set, Some, None, IfOk, OnOk, MatchOption};
+ghost use Rattle.std.specs.Prelude.{◌≡◌, ◌<◌, ◌≤◌, ◌+◌, ◌==◌, ◌^◌, ◌&&◌, ◌||◌, ℕ, true, false, not, nat_lt, length, slice_set, Some, None, IfOk, OnOk, MatchOption};
 ghost use Rattle.std.specs.Slice.Scan.{HoldsNowhere};
 ghost use Rattle.sh_rows.specs.Numbers.{has_number};
 ghost use Rattle.sh_worklist.specs.Bits.{IsNext};
@@ -103,6 +103,24 @@ impl Waiting {
         ensures { self.new ≡ record self.old { inside = outer } }
     {
         self.inside = outer;
+    }
+
+    /// The next unit, as the units give it.
+    ///
+    /// # Errors
+    ///
+    /// If a growth was refused.
+    pub fn next_unit(
+        &mut self,
+        alloc: Global,
+        table: &CallTable<'_>,
+    ) -> Result<Option<Unit>, AllocError>
+        ensures commands { self.new.commands ≡ self.old.commands }
+        ensures taken { (k : ℕ) → bodies.does_wait self.new.units k ≡ (not (bodies.gives_outside result && (k == 0)) && bodies.does_wait self.old.units k) }
+        ensures none { IfOk result (λ unit. unit ≡ None → bodies.does_wait self.old.units 0 ≡ false) }
+        ensures seen { IfOk result (λ unit. unit ≡ None → HoldsNowhere (bodies.is_unseen self.old.units) 0 (2 ^ 32)) }
+    {
+        self.units.next(alloc, table, &self.commands)
     }
 
     /// Has a command wait, and the unit that it is in.

@@ -48,8 +48,8 @@ sweep::enter_item-enter_process-requires t c =
     let at = c.args.course.now in
     let i = c.args.item.now in
     let y = walks.around s.script.now c.args.around.now in
-    let any : knowledge_facts s.names.now c.in_any_case-seen.result ≡ in_any_case (known_behind s at.behind) = c.in_any_case-seen.ensures (setting_by s c.args.draft.now.certificate) in
-    let placed : (k : Facts) → ((q : Seen) → Knows s q (knowledge_facts s.names.now c.in_any_case-seen.result) → Knows s (without_job q) k) → IsAndOr s F11 entries.alone k (out-Item i).list =
+    let any : knowledge_facts s.names.now c.meet.new.known ≡ in_any_case (known_behind s at.behind) = c.meet.ensures (setting_by s c.args.draft.now.certificate) in
+    let placed : (k : Facts) → ((q : Seen) → Knows s q (knowledge_facts s.names.now c.meet.new.known) → Knows s (without_job q) k) → IsAndOr s F11 entries.alone k (out-Item i).list =
     λ k known. background_placed s y at i c.requires.placed.0 k c.if-item.true (λ q w. known q (subst (Knows s q) (sym any) w)) _ (names_numbered s _ _ r) r.over c.requires.placed.1 in
     search std_rules
 
@@ -61,8 +61,8 @@ sweep::enter_item-sweep_and_or-requires t c =
     let at = c.args.course.now in
     let i = c.args.item.now in
     let y = walks.around s.script.now c.args.around.now in
-    let k = knowledge_facts s.names.now c.in_any_case-seen.result in
-    let any : k ≡ in_any_case (known_behind s at.behind) = c.in_any_case-seen.ensures (setting_by s c.args.draft.now.certificate) in
+    let k = knowledge_facts s.names.now c.meet.new.known in
+    let any : k ≡ in_any_case (known_behind s at.behind) = c.meet.ensures (setting_by s c.args.draft.now.certificate) in
     let placed : IsAndOr s at.by y k (out-Item i).list = foreground_placed s y at i c.requires.placed.0 k c.if-item.false any _ (names_numbered s _ _ r) r.over c.requires.placed.1 in
     search std_rules
 
@@ -668,10 +668,10 @@ sweep::sweep_items-loop-place-preserved t c =
     let here : AreItems s course.by y (known_behind s course.behind) (c.index-items-next.result ∷ drop (next + 1) is) =
     next_item s y is at next c.index-items-next.result c.pass_idle-next.ensures.from c.pass_idle-next.ensures.there c.index-items-next.is c.loop-place.course course c.loop-place.invariant.placed c.pass_idle-next.ensures.passed in
     record {
-      swept = swept_more s _ _ _ _ _ c.loop-place.invariant.swept c.in_ok-is_new.ensures.swept;
-      placed = items_next s y course c.sweep_or_pass.new.course c.index-items-next.result _ here c.in_ok-is_new.ensures.passed;
+      swept = swept_more s _ _ _ _ _ c.loop-place.invariant.swept c.in_ok-news.ensures.swept;
+      placed = items_next s y course c.sweep_or_pass.new.course c.index-items-next.result _ here c.in_ok-news.ensures.passed;
       goes = λ o k. goes_next s o course c.sweep_or_pass.new.course is c.index-items-next.result _
-          (next_goes s o is at next c.index-items-next.result c.pass_idle-next.ensures.from c.pass_idle-next.ensures.there c.index-items-next.is c.loop-place.course course (c.loop-place.invariant.goes o k) c.pass_idle-next.ensures.passed) c.in_ok-is_new.ensures.passed;
+          (next_goes s o is at next c.index-items-next.result c.pass_idle-next.ensures.from c.pass_idle-next.ensures.there c.index-items-next.is c.loop-place.course course (c.loop-place.invariant.goes o k) c.pass_idle-next.ensures.passed) c.in_ok-news.ensures.passed;
     }
 
 pub sweep::sweep_items-returns-clause-behind : goal.sweep::sweep_items-returns-clause-behind

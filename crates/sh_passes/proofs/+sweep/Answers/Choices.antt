@@ -140,8 +140,8 @@ sweep_body-sweep_items-requires t c =
     let y = walks.around s.script.now c.args.around.now in
     let k = knowledge_facts s.names.now c.args.behind.now in
     let old = knowledge_facts s.names.now c.args.fallen.now in
-    let known = knowledge_facts s.names.now c.met-known.result in
-    let same : known ≡ meet k old = c.met-known.ensures (setting_by s c.args.draft.now.certificate) in
+    let known = knowledge_facts s.names.now c.meet.new.known in
+    let same : known ≡ meet k old = c.meet.ensures (setting_by s c.args.draft.now.certificate) in
     let begun : known_behind s c.begun-course.result.behind ≡ both known = c.begun-course.ensures.behind (setting_by s c.args.draft.now.certificate) in
     let placed : AreItems s c.begun-course.result.by y (known_behind s c.begun-course.result.behind) c.as_slice.result.now =
     begun_at s y known c.begun-course.result F9 (out-Clause c.args.clause.now).body c.as_slice.result.now c.begun-course.ensures.by begun c.as_slice.ensures
@@ -157,8 +157,8 @@ sweep_body-returns-clause-passed t c =
     let y = walks.around s.script.now c.args.around.now in
     let k = knowledge_facts s.names.now c.args.behind.now in
     let old = knowledge_facts s.names.now c.args.fallen.now in
-    let known = knowledge_facts s.names.now c.met-known.result in
-    let same : known ≡ meet k old = c.met-known.ensures (setting_by s c.args.draft.now.certificate) in
+    let known = knowledge_facts s.names.now c.meet.new.known in
+    let same : known ≡ meet k old = c.meet.ensures (setting_by s c.args.draft.now.certificate) in
     let begun : known_behind s c.begun-course.result.behind ≡ both known = c.begun-course.ensures.behind (setting_by s c.args.draft.now.certificate) in
     let after = known_after s known c.begun-course.result c.sweep_items.new.course (out-Clause c.args.clause.now).body c.as_slice.result.now begun c.as_slice.ensures c.in_ok-sweep_items.ensures.behind in
     clauses_next s y k old known (known_behind s c.sweep_items.new.course.behind) _ c.args.clause.now others same (c.falling.ensures (setting_by s c.args.draft.now.certificate)) after _ (names_numbered s _ _ r) c.in_ok-sweep_items.ensures.swept.over here

@@ -6,3 +6,6 @@ returns c = record { swept = swept_more c.args.subject.now _ _ _ _ _ c.in_ok-low
 
 pub lower_second-requires-clause-ready : goal.lower_second-requires-clause-ready
 lower_second-requires-clause-ready c = ready_again c.args.subject.now _ _ _ _ c.requires.ready c.in_ok-lower_first.ensures.swept
+
+pub ask_behind-requires-clause-stands : goal.ask_behind-requires-clause-stands
+ask_behind-requires-clause-stands c = c.both_places-sides.ensures.stands c.args.subject.now.names.now

@@ -9,4 +9,4 @@ use Rattle.sh_turns.proofs.counts.lower_claimed.Goals as goal
 pub lower_count-requires-clause-over : goal.lower_count-requires-clause-over
 lower_count-requires-clause-over c = λ other keeps slot at.
     subst (λ n. HasAtMost n (facts (claim_there other (Some c.in-Some-place_of_count.place)))) (sym c.solved_at-args.ensures)
-    (subst (HasAtMostThere c.args.subject.now (worth c.args.counts.now c.args.count)) (sym c.in-Some-place_of_count.ensures) (c.requires.over c.in-Some._args (sym c.claim_at.ensures ∙ c.in-Some.is)) other keeps slot at)
+    (subst (HasAtMostThere c.args.subject.now (worth c.args.counts.now c.args.count)) (sym c.in-Some-place_of_count.ensures) (c.requires.over c.in-Some.most (sym c.claim_at.ensures ∙ c.in-Some.is)) other keeps slot at)

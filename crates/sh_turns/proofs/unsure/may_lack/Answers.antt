@@ -1,4 +1,4 @@
-use Rattle.std.proofs.Common.{◌≡◌, ℕ, Option, not, sym, ap, ◌∙◌}
+use Rattle.std.proofs.Common.{ℕ, Option, not, sym, ap, ◌∙◌}
 use Rattle.sh_domain.specs.KeptRows.{holds_at}
 use Rattle.sh_domain.specs.Knowledge.{at_number}
 use Rattle.sh_turns.specs.Counts.{may_lack}
