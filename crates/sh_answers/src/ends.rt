@@ -1,5 +1,5 @@
 //! The ends of a run: the reader that the script comes from and the writer that the answer goes to.
-ghost use Rattle.std.specs.Prelude.{◌≡◌, ℕ, List, length, Option};
+ghost use Rattle.std.specs.Prelude.{◌≡◌, ℕ, List, length, Option, IsOk};
 ghost use Rattle.std.specs.Io.{ReadsAtMost, WritesAtMost};
 ghost use Rattle.std.specs.Io.KnownBytes.{ReadConsumes, WriteAppends};
 ghost use Rattle.sh_answers.specs.declared.ends.Counts.{Counts};
@@ -32,6 +32,9 @@ pub trait Feed {
 
     ghost tally: { Self → Counts };
 
+    // That no pull from here on fails or is interrupted.
+    ghost cannot_fail: { Self → Type 0 } = { λ _. ⊥ };
+
     /// Puts bytes at the front of the buffer, and answers how many. No byte in a buffer with room
     /// is the end.
     ///
@@ -42,6 +45,7 @@ pub trait Feed {
         requires { CanCount (tally self.old) }
         ensures bound { ReadsAtMost result buffer.new }
         ensures bytes { ReadConsumes (remaining self.old) (remaining self.new) result buffer.new }
+        ensures succeeds { cannot_fail self.old → IsOk result × cannot_fail self.new }
         ensures counts { tally self.new ≡ counts_after result (length buffer.old) (tally self.old) };
 
     /// What went wrong so far.

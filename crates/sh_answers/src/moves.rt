@@ -51,6 +51,7 @@ pub fn read_all<R: Feed>(alloc: Global, reader: &mut R, limit: usize) -> Result<
     ensures taken { IfOk result (λ v. (b : List ℕ) → Had (R.remaining reader.old) limit b → v.items ≡ b) }
 
     ensures failed { IsErrOf result Fault.Read → FailedBetween (R.tally reader.old) (R.tally reader.new) }
+    ensures succeeds { R.cannot_fail reader.old → IsErrOf result Fault.Read → ⊥ }
     ensures memory { IsErrOf result Fault.Memory → BoreOnly (R.tally reader.old) (R.tally reader.new) }
     ensures written { IsErrOf result Fault.Write → ⊥ }
     ensures lost { OnErr result (TookAtMost (R.remaining reader.old) (R.remaining reader.new) limit) }

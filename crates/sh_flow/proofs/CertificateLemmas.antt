@@ -1,12 +1,15 @@
 -- What is read of a certificate's text, what is refused of it, and what a compact one states.
 use Rattle.std.proofs.Common.{◌≡◌, ℕ, Bool, true, List, length, Result, Ok, Err, IfOk, refl, sym, subst}
+use Rattle.std.specs.Prelude.{IsOk}
 use Rattle.sh_tree.specs.declared.limits.TheConstants.{MAX_NESTING}
 use Rattle.sh_tree.specs.declared.refusal.Refusal.{Refusal}
 use Rattle.sh_tree.specs.declared.refusal.Refusal.TheVariants.{Memory}
+use Rattle.sh_tree.specs.declared.tree.Script.{Script}
 use Rattle.sh_tree.specs.standard.program.Syntax.{Text}
 use Rattle.sh_table.specs.Calls.{Table}
 use Rattle.sh_domain.specs.Facts.{Declared}
 use Rattle.sh_domain.specs.Certificates.{in_byte_order}
+use Rattle.sh_domain.specs.CompactForms.{read_given}
 use Rattle.sh_domain.specs.CompactReading.{ReadsGiven, compact_fits, given_claims, given_fits, given_rows}
 use Rattle.sh_domain.specs.Compacts.{CompactSheet, compact_claims, stated_sheet}
 use Rattle.sh_domain.specs.Filled.{FillsTo}
@@ -25,6 +28,10 @@ use Rattle.sh_accept.proofs.PartLemmas.{parts_always_answer}
 use Rattle.sh_accept.proofs.StatedLemmas.{stated_fits}
 use Rattle.sh_judged.specs.Prepared.{AnswersText, IsPrepared, IsRead, sheet_in}
 use Rattle.sh_judged.specs.declared.prepared.Prepared.{Prepared}
+
+-- a text of which something is read has the form
+pub has_form : (text : Text) (t : Script) (functions : ℕ) (names : List Text) (g : Given) → ReadsGiven text t functions names (Ok g) → IsOk (read_given text)
+has_form text t functions names g h = rw h.2.claims refl
 
 module _ (b : List ℕ) (d : Declared) (p : Prepared) (i : IsPrepared b d p) where
   -- with the functions of the script

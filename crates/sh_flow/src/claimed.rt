@@ -1,5 +1,6 @@
 //! The certificate that a text claims.
-ghost use Rattle.std.specs.Prelude.{◌≡◌, IfOk, length};
+ghost use Rattle.std.specs.Prelude.{◌≡◌, IfOk, IsErrOf, IsOk, length};
+ghost use Rattle.sh_domain.specs.CompactForms.{read_given};
 ghost use Rattle.sh_domain.specs.CompactReading.{given_claims, given_rows};
 ghost use Rattle.sh_accept.specs.Accepted.{Gives};
 ghost use Rattle.sh_judged.specs.Prepared.{AnswersText, IsPrepared, IsRead, sheet_in};
@@ -16,7 +17,8 @@ use std::alloc::{AllocError, Global};
 ///
 /// # Errors
 ///
-/// `CertSyntax` and `CertShape` as `read_any` reports them; `Memory` if a growth was refused.
+/// `CertSyntax` and `CertShape` as `read_any` reports them. `Memory` if a growth was refused, which
+/// requires a text that has the form.
 #[tactic(auto, using(crate::proofs::CertificateLemmas::unread, crate::proofs::CertificateLemmas::exhausted, crate::proofs::CertificateLemmas::certifies))]
 pub fn certified(
     alloc: Global,
@@ -27,6 +29,7 @@ pub fn certified(
 ) -> Result<Certificate, Refusal>
     requires { IsPrepared script.now policy.now prepared.now }
     ensures answers { AnswersText script.now policy.now text.now prepared.now result }
+    ensures memory { IsErrOf result Refusal.Memory → IsOk (read_given text.now) }
     ensures sized { IfOk result (λ c. c.rows.count ≡ length prepared.now.names) }
 {
     let given = read_any(

@@ -65,3 +65,8 @@ module _ (b : List ℕ) (d : Declared) where
   -- a certificate that fits
   pub certifies : (text : Text) (p : Prepared) (c : Certificate) (v : Verdict) → AnswersText b d text p (Ok c) → Judges b d p.tree (sheet_in p c) v → Checks b d text (Ok v)
   certifies text p c v h j = answers text p.tree (sheet_in p c) v h j
+
+-- whatever is declared: what holds of these unmet demands and of the unquoted expansions holds of the places to report
+pub of_places : (b : List ℕ) (t : Script) (c : Sheet) (unmet : List Place) (P : List Place → Type 0) → ((d : Declared) → unmet ≡ unmet_in b d t c) → P (unmet ++ unquoted (script_of b t))
+    → (d : Declared) → P (places b d t c)
+of_places b t c unmet P e h d = subst (λ ps. P (ps ++ unquoted (script_of b t))) (e d) h

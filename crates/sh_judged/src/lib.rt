@@ -7,4 +7,4 @@ mod verdicts;
 
 pub use prepared::{Prepared, prepare};
 pub use told::verdict_of;
-pub use verdicts::judged;
+pub use verdicts::{judged, judged_kept};

@@ -1,8 +1,10 @@
 //! What is reported of a certificate: what the rules and the demands say of it.
 ghost use Rattle.std.specs.Prelude.{◌≡◌, ◌++◌, ◌<◌, IfErr, IfOk, length};
 ghost use Rattle.sh_tree.specs.standard.program.Trees.{script_of};
+ghost use Rattle.sh_domain.specs.Admitted.{KeepsRules};
 ghost use Rattle.sh_domain.specs.Facts.{Declared};
 ghost use Rattle.sh_quote.specs.Places.{unquoted};
+ghost use Rattle.sh_accept.specs.Answers.{places};
 ghost use Rattle.sh_judged.specs.Judged.{Judges, TellsSome};
 ghost use Rattle.sh_judged.specs.Prepared.{IsPrepared, sheet_in};
 ghost use Rattle.sh_judged.specs.Told.{TellsPlaces};
@@ -11,6 +13,7 @@ use crate::prepared::Prepared;
 use crate::told::verdict_of;
 use sh_answers::Verdict;
 use sh_checks::{Flow, check_flow};
+use sh_demands::check_demands;
 use sh_domain::{Certificate, Policy};
 use sh_quote::check_quotes;
 use sh_tree::Place;
@@ -66,4 +69,31 @@ pub fn judged(
         Flow::Holds => verdict_with(alloc, script, prepared, Vec::new(alloc)),
         Flow::Demand(unmet) => verdict_with(alloc, script, prepared, unmet),
     }
+}
+
+/// What is reported of a certificate that keeps every flow rule: its unmet demands and the unquoted
+/// expansions. The rules are not looked at.
+///
+/// # Errors
+///
+/// `AllocError` if a growth was refused. That requires a place to report.
+pub fn judged_kept(
+    alloc: Global,
+    script: &[u8],
+    prepared: &Prepared,
+    certificate: &Certificate,
+) -> Result<Verdict, AllocError>
+    requires { (d : Declared) × IsPrepared script.now d prepared.now × KeepsRules script.now d prepared.now.tree (sheet_in prepared.now certificate.now) }
+    ensures reports { IfOk result (λ v. (d : Declared) → TellsPlaces script.now (places script.now d prepared.now.tree (sheet_in prepared.now certificate.now)) v) }
+    ensures memory { IfErr result (λ _. (d : Declared) → 0 < length (places script.now d prepared.now.tree (sheet_in prepared.now certificate.now))) }
+{
+    let unmet = check_demands(
+        alloc,
+        &prepared.tree,
+        script,
+        &prepared.table,
+        &prepared.names,
+        certificate,
+    )?;
+    verdict_with(alloc, script, prepared, unmet)
 }

@@ -1,5 +1,5 @@
 -- From the greatest certificate of a script to what is answered of it.
-use Rattle.std.proofs.Common.{◌≡◌, ℕ, suc, ◌+◌, ◌^◌, ◌<◌, ◌≤◌, Bool, true, false, List, [], ◌∷◌, ◌++◌, map, length, Some, None, Result, Ok, Err, IfOk, Vec, Global, refl, sym, ◌∙◌, ap, subst, arith}
+use Rattle.std.proofs.Common.{◌≡◌, ℕ, suc, ◌+◌, ◌^◌, ◌<◌, ◌≤◌, Bool, true, false, List, [], ◌∷◌, ◌++◌, map, length, Result, Ok, Err, IfOk, Vec, Global, refl, sym, ◌∙◌, ap, subst, arith}
 use Rattle.std.proofs.Common.{leb-true}
 use Rattle.std.proofs.lemmas.List.{length-map}
 use Rattle.std.proofs.lemmas.Result.{IfOk-weaker}
@@ -33,32 +33,28 @@ use Rattle.sh_quote.specs.Places.{unquoted}
 use Rattle.sh_answers.specs.declared.verdict.Verdict.{Verdict}
 use Rattle.sh_answers.specs.declared.verdict.Verdict.TheVariants.{Pass, Fail, Forged}
 use Rattle.sh_domain.specs.Admitted.{claims_in}
-use Rattle.sh_accept.specs.Answers.{Certifies, IsBest, IsStart, IsTextOf, Lints}
+use Rattle.sh_accept.specs.Answers.{Certifies, IsBest, IsStart, IsTextOf, Lints, places}
 use Rattle.sh_accept.proofs.DistinctLemmas.{distinct_fold}
 use Rattle.sh_domain.specs.Admitted.{IsGreatest}
 use Rattle.sh_judged.specs.Prepared.{IsPrepared, StatesGreatest, sheet_in}
-use Rattle.sh_judged.specs.Judged.{Judges}
-use Rattle.sh_domain.specs.Faults.{Fault, least}
+use Rattle.sh_judged.specs.Told.{TellsPlaces}
 use Rattle.sh_judged.specs.declared.prepared.Prepared.{Prepared}
 
 module _ (b : List ℕ) (d : Declared) (p : Prepared) (i : IsPrepared b d p) where
   best : (c : Sheet) → IsGreatest b d p.tree p.names c → IsBest b d p.tree c
   best c g = record { names = p.names; admitted = i.admitted; greatest = g }
 
-  no_fault : (fs : List Fault) (f : Fault) → fs ≡ [] → least fs ≡ Some f → ⊥
-  unfolding least
-  no_fault fs f e h = let none : None ≡ Some f = subst (λ gs. least gs ≡ Some f) e h in cc
-
-  told : (c : Sheet) → IsGreatest b d p.tree p.names c → (v : Verdict) → Judges b d p.tree c v → Lints b d (Ok v)
+  told : (c : Sheet) → IsGreatest b d p.tree p.names c → (v : Verdict) → TellsPlaces b (places b d p.tree c) v → Lints b d (Ok v)
   told c g Pass h =
-      let none = none_both (demands (start_facts d) (claims_in b p.tree c) (script_of b p.tree)) (unquoted (script_of b p.tree)) h.1 in
+      let none = none_both (demands (start_facts d) (claims_in b p.tree c) (script_of b p.tree)) (unquoted (script_of b p.tree)) h in
       (c, record { tree = p.tree; names = p.names; admitted = i.admitted; fit = g.fit; rules = g.rules; met = none.0; quoted = none.1 })
-  told c g (Fail r) h = record { tree = p.tree; certificate = c; best = best c g; some = h.1; found = h.2 }
-  told c g (Forged n f) h = absurd (no_fault _ _ g.rules h)
+  told c g (Fail r) h = record { tree = p.tree; certificate = c; best = best c g; some = h.0; found = h.1 }
+  told c g (Forged n f) h = absurd h
 
   -- the verdict on the greatest certificate
-  pub judged_greatest : {E : Type 0} (c : Certificate) (r : Result Verdict E) → IsGreatest b d p.tree p.names (sheet_in p c) → IfOk r (Judges b d p.tree (sheet_in p c)) → IfOk r (λ v. Lints b d (Ok v))
-  judged_greatest c r g h = IfOk-weaker r (Judges b d p.tree (sheet_in p c)) (λ v. Lints b d (Ok v)) (λ v k. told (sheet_in p c) g v k) h
+  pub judged_greatest : {E : Type 0} (c : Certificate) (r : Result Verdict E) → IsGreatest b d p.tree p.names (sheet_in p c)
+      → IfOk r (λ v. (declared : Declared) → TellsPlaces b (places b declared p.tree (sheet_in p c)) v) → IfOk r (λ v. Lints b d (Ok v))
+  judged_greatest c r g h = IfOk-weaker r _ (λ v. Lints b d (Ok v)) (λ v k. told (sheet_in p c) g v (k d)) h
 
   -- its text, and that of what states its compact form
   pub full_spelled : (c : Certificate) (text : Text) → text ≡ certificate_text (sheet_in p c) → IsTextOf true d (sheet_in p c) text

@@ -29,7 +29,7 @@ const CERTIFICATE_READ: usize = MAX_CERTIFICATE + 1;
 /// read, and nothing else. The whole text is made before its first byte is written. The result is
 /// the exit status. 0 is for clean or a text that was asked for, 1 for findings or a certificate
 /// that breaks a flow rule, 2 for refused. A lint or a check that ends with 0 promises what a pass
-/// does. No other action reads `cert`.
+/// does. No other action reads `cert`, and none before the script is read whole.
 ///
 /// # Errors
 ///
@@ -60,9 +60,11 @@ pub fn run<R: Feed, C: Feed, W: Outlet>(
         × IsTextRead task.now.action (C.remaining cert.old) runs.certificate_read t × WritesFront task.now b t (W.contents out.old) (W.contents out.new) }
     ensures memory { IsErrOf result Fault.Memory → out.new ≡ out.old }
     ensures read { IsErrOf result Fault.Read → out.new ≡ out.old }
+    ensures order { (cert.new ≡ cert.old) ⊎ TookWhole (R.tally script.old) (R.tally script.new) (R.remaining script.old) (R.remaining script.new) runs.script_read }
     ensures wrote { OnOk result (BoreOnly (W.tally out.old) (W.tally out.new)) }
     ensures memory_read { IsErrOf result Fault.Memory → BoreAll (R.tally script.old) (R.tally script.new) × BoreAll (C.tally cert.old) (C.tally cert.new) }
     ensures read_failed { IsErrOf result Fault.Read → (FailedBetween (R.tally script.old) (R.tally script.new) × (cert.new ≡ cert.old)) ⊎ FailedBetween (C.tally cert.old) (C.tally cert.new) }
+    ensures succeeds { R.cannot_fail script.old → (task.now.action ≡ actions.Check → C.cannot_fail cert.old) → IsErrOf result Fault.Read → ⊥ }
     ensures write_failed { IsErrOf result Fault.Write → RefusedBetween (W.tally out.old) (W.tally out.new) }
 {
     // As in `check`.
@@ -86,6 +88,7 @@ fn read_certificate<C: Feed>(alloc: Global, action: Action, cert: &mut C) -> Res
     ensures bore { OnOk result (BoreAll (C.tally cert.old) (C.tally cert.new)) }
     ensures memory { IsErrOf result Fault.Memory → BoreAll (C.tally cert.old) (C.tally cert.new) }
     ensures failed { IsErrOf result Fault.Read → FailedBetween (C.tally cert.old) (C.tally cert.new) }
+    ensures succeeds { (action ≡ actions.Check → C.cannot_fail cert.old) → IsErrOf result Fault.Read → ⊥ }
     ensures written { IsErrOf result Fault.Write → ⊥ }
 {
     match action {

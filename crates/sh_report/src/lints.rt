@@ -12,7 +12,7 @@ use sh_facts::{
     compact_of, is_compact_too_long, is_too_long, start_of, write_certificate, write_compact,
 };
 use sh_find::find;
-use sh_judged::{Prepared, judged, prepare};
+use sh_judged::{Prepared, judged_kept, prepare};
 use sh_tree::Refusal;
 use std::alloc::{AllocError, Global};
 
@@ -37,7 +37,7 @@ fn greatest(
     )
 }
 
-// What is reported of a script that is admitted. The greatest certificate breaks no flow rule.
+// What is reported of a script that is admitted. The greatest certificate keeps every flow rule.
 fn lint_prepared(
     alloc: Global,
     script: &[u8],
@@ -48,7 +48,7 @@ fn lint_prepared(
     ensures { IfOk result (λ v. Lints script.now policy.now (Ok v)) }
 {
     let certificate = greatest(alloc, script, policy, prepared)?;
-    judged(alloc, script, policy, prepared, &certificate)
+    judged_kept(alloc, script, prepared, &certificate)
 }
 
 /// The verdict on a script: a pass exactly if some certificate of it is accepted, or the findings

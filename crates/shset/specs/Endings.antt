@@ -1,7 +1,7 @@
 -- How the program ends: what it prints beside an answer, where, and its status.
 -- POSIX.1-2024, XCU 1.4 (utility description defaults): diagnostics go to standard error, and a
 -- status above zero reports a fault.
-use Rattle.std.specs.Prelude.{◌≡◌, ◌⊎◌, ℕ, List, [], ◌∷◌, ◌++◌, codes, string_bytes, Option, Some, None, Result, Ok, Err}
+use Rattle.std.specs.Prelude.{◌≡◌, ◌<◌, ◌⊎◌, ℕ, List, [], ◌∷◌, ◌++◌, length, take, codes, string_bytes, Option, Some, None, Result, Ok, Err}
 use Rattle.std.specs.Option.{option_map}
 use Rattle.std.specs.Io.KnownBytes.{Appends}
 use Rattle.std.specs.declared.io.ErrorKind.{ErrorKind}
@@ -9,7 +9,7 @@ use Rattle.std.specs.declared.io.ErrorKind.TheVariants.{OutOfMemory}
 use Rattle.sh_answers.specs.declared.ends.Counts.{Counts}
 use Rattle.sh_answers.specs.declared.moves.Fault.{Fault}
 use Rattle.sh_answers.specs.declared.moves.Fault.TheVariants as fault
-use Rattle.sh_answers.specs.Ends.{RefusedBetween}
+use Rattle.sh_answers.specs.Ends.{BoreOnly, RefusedBetween}
 use Rattle.sh_line.specs.declared.line.Stop.{Stop}
 use Rattle.sh_line.specs.declared.line.Stop.TheVariants.{Usage, Help, BadName, Memory}
 use Rattle.shset.specs.declared.ending.Stream.{Stream}
@@ -62,15 +62,17 @@ pub record Seen : Type 0 where
 abbrev pub seen : Option (List ℕ) → Counts → Seen
 seen held counts = record { held = held; counts = counts }
 
+-- it takes the whole text, and does not fail
 abbrev pub Takes : List ℕ → Seen → Seen → Type 0
-Takes text old new = Appends old.held new.held text
+Takes text old new = Appends old.held new.held text × BoreOnly old.counts new.counts
 
-abbrev pub Refuses : Seen → Seen → Type 0
-Refuses old new = RefusedBetween old.counts new.counts
+-- it fails, and took a front of the text, and not the whole
+abbrev pub Refuses : List ℕ → Seen → Seen → Type 0
+Refuses text old new = RefusedBetween old.counts new.counts × ((n : ℕ) × (n < length text) × Appends old.held new.held (take n text))
 
 -- it takes the text or refuses
 abbrev pub Offers : List ℕ → Seen → Seen → Type 0
-Offers text old new = Takes text old new ⊎ Refuses old new
+Offers text old new = Takes text old new ⊎ Refuses text old new
 
 -- The message goes to its stream. If standard output refuses it, that is a fault; if standard error
 -- does, there is nothing to report.
@@ -79,7 +81,7 @@ EndsBy None given out out_after error error_after status = (status ≡ given) ×
 EndsBy (Some (Error, text)) given out out_after error error_after status = (status ≡ given) × (out_after ≡ out) × Offers text error error_after
 EndsBy (Some (Output, text)) given out out_after error error_after status =
     ((status ≡ given) × Takes text out out_after × (error_after ≡ error))
-    ⊎ ((status ≡ 3) × Refuses out out_after × Offers (fault_line fault.Write ++ 10 ∷ []) error error_after)
+    ⊎ ((status ≡ 3) × Refuses text out out_after × Offers (fault_line fault.Write ++ 10 ∷ []) error error_after)
 
 -- how the program ends, by what is known of its streams before and after
 abbrev pub Ends : Ending → (out out_after error error_after : Seen) → ℕ → Type 0

@@ -2,25 +2,24 @@
 //! command line asks for, and ends with its status.
 #![tactic(auto)]
 
-ghost use Rattle.std.specs.Prelude.{◌≡◌, IfOk, IsErrOf};
+ghost use Rattle.std.specs.Prelude.{◌≡◌, IfOk, IsErrOf, OnOk};
 ghost use Rattle.std.specs.Process.{exit_status};
-ghost use Rattle.sh_answers.specs.Ends.{HasRoom};
+ghost use Rattle.sh_answers.specs.Ends.{BoreOnly, HasRoom, RefusedBetween};
 ghost use Rattle.shset.specs.Endings.{Ends, Offers, seen};
-ghost use Rattle.shset.specs.Sources.{Answers, PromisesSafe, bytes_of, certificate_bytes};
+ghost use Rattle.shset.specs.Sources.{Answers, Fronts, IsSure, IsSureIfNamed, PromisesSafe, bytes_of, certificate_bytes};
 
 mod ending;
 mod sources;
 
 use ending::{Ending, FAILED, Stream, UNWRITTEN, after_run, without_line, without_words};
-use sh_answers::{Counted, Fault, Outlet, Task, write_all};
+use sh_answers::{Counted, Fault, Feed, Outlet, Task, write_all};
 use sh_line::{Line, Source, command_line};
 use sh_report::run;
-use sources::Sources;
+use sources::{Nothing, Sources};
 use std::alloc::Global;
-use std::env;
-use std::io::{self, Read};
 use std::process::ExitCode;
 use std::rt::Env;
+use std::{env, io};
 
 /// Prints on standard error, of which nothing can be reported if it refuses, and gives the status.
 fn end_with<E: Outlet>(error: &mut E, text: &str, status: u8) -> ExitCode
@@ -60,40 +59,49 @@ fn exit(rt: &HostRuntime, ending: Ending<'_>) -> ExitCode {
 }
 
 /// Runs over a script and a certificate, and writes the answer.
-fn run_over<S: Read + Drop, C: Read + Drop, W: Outlet>(
+fn run_over<S: Feed + Drop, C: Feed + Drop, W: Outlet>(
     alloc: Global,
     task: &Task,
-    script: S,
-    certificate: C,
+    mut script: S,
+    mut certificate: C,
     out: &mut W,
 ) -> Result<u8, Fault>
-    requires { HasRoom (W.tally out.old) }
+    requires script_room { HasRoom (S.tally script) }
+    requires certificate_room { HasRoom (C.tally certificate) }
+    requires out_room { HasRoom (W.tally out.old) }
     ensures answer { IfOk result (Answers (S.remaining script) (C.remaining certificate) task.now (W.contents out.old) (W.contents out.new)) }
     ensures safe { IfOk result (PromisesSafe (S.remaining script) task.now) }
+    ensures wrote { OnOk result (BoreOnly (W.tally out.old) (W.tally out.new)) }
     ensures memory { IsErrOf result Fault.Memory → out.new ≡ out.old }
     ensures read { IsErrOf result Fault.Read → out.new ≡ out.old }
+    ensures succeeds { S.cannot_fail script → C.cannot_fail certificate → IsErrOf result Fault.Read → ⊥ }
+    ensures front { IsErrOf result Fault.Write → Fronts (S.remaining script) (C.remaining certificate) task.now (W.contents out.old) (W.contents out.new) }
+    ensures write_failed { IsErrOf result Fault.Write → RefusedBetween (W.tally out.old) (W.tally out.new) }
 {
-    let mut script = Counted::new(script);
-    let mut certificate = Counted::new(certificate);
     run(alloc, task, &mut script, &mut certificate, out)
 }
 
 /// Runs over a script and the certificate that the line names, if it names one.
-fn run_script<R: Sources, S: Read + Drop, W: Outlet>(
+fn run_script<R: Sources, S: Feed + Drop, W: Outlet>(
     alloc: Global,
     sources: &R,
     line: &Line<'_>,
     script: S,
     out: &mut W,
 ) -> Result<u8, Fault>
-    requires { HasRoom (W.tally out.old) }
+    requires script_room { HasRoom (S.tally script) }
+    requires out_room { HasRoom (W.tally out.old) }
     ensures answer { IfOk result (Answers (S.remaining script) (certificate_bytes (R.input_bytes sources.now) (R.file_bytes sources.now) line.now.cert) line.now.task (W.contents out.old) (W.contents out.new)) }
     ensures safe { IfOk result (PromisesSafe (S.remaining script) line.now.task) }
+    ensures wrote { OnOk result (BoreOnly (W.tally out.old) (W.tally out.new)) }
     ensures memory { IsErrOf result Fault.Memory → out.new ≡ out.old }
     ensures read { IsErrOf result Fault.Read → out.new ≡ out.old }
+    ensures succeeds { S.cannot_fail script → IsSureIfNamed (R.reads_input sources.now) (R.reads_file sources.now) line.now.cert → IsErrOf result Fault.Read → ⊥ }
+    ensures front { IsErrOf result Fault.Write → Fronts (S.remaining script) (certificate_bytes (R.input_bytes sources.now) (R.file_bytes sources.now) line.now.cert) line.now.task (W.contents out.old) (W.contents out.new) }
+    ensures write_failed { IsErrOf result Fault.Write → RefusedBetween (W.tally out.old) (W.tally out.new) }
 {
     match line.cert {
-        None => run_over(alloc, &line.task, script, b"".as_slice(), out),
+        None => run_over(alloc, &line.task, script, Nothing::new(), out),
         Some(Source::Input) => run_over(alloc, &line.task, script, sources.input(), out),
         Some(Source::File(name)) => match sources.file(name) {
             Ok(file) => run_over(alloc, &line.task, script, file, out),
@@ -104,6 +112,11 @@ fn run_script<R: Sources, S: Read + Drop, W: Outlet>(
 
 /// Runs over the script and the certificate that the line names, and writes the answer. If a file
 /// cannot be opened, nothing is written.
+///
+/// # Errors
+///
+/// `Memory` if a growth was refused. `Read` if a file cannot be opened, or if a read of what the
+/// line names failed. `Write` if the writer failed, with a front of the text written.
 fn run_line<R: Sources, W: Outlet>(
     alloc: Global,
     sources: &R,
@@ -114,8 +127,14 @@ fn run_line<R: Sources, W: Outlet>(
     ensures answer { IfOk result (Answers (bytes_of (R.input_bytes sources.now) (R.file_bytes sources.now) line.now.script)
         (certificate_bytes (R.input_bytes sources.now) (R.file_bytes sources.now) line.now.cert) line.now.task (W.contents out.old) (W.contents out.new)) }
     ensures safe { IfOk result (PromisesSafe (bytes_of (R.input_bytes sources.now) (R.file_bytes sources.now) line.now.script) line.now.task) }
+    ensures wrote { OnOk result (BoreOnly (W.tally out.old) (W.tally out.new)) }
     ensures memory { IsErrOf result Fault.Memory → out.new ≡ out.old }
     ensures read { IsErrOf result Fault.Read → out.new ≡ out.old }
+    ensures succeeds { IsSure (R.reads_input sources.now) (R.reads_file sources.now) line.now.script
+        → IsSureIfNamed (R.reads_input sources.now) (R.reads_file sources.now) line.now.cert → IsErrOf result Fault.Read → ⊥ }
+    ensures front { IsErrOf result Fault.Write → Fronts (bytes_of (R.input_bytes sources.now) (R.file_bytes sources.now) line.now.script)
+        (certificate_bytes (R.input_bytes sources.now) (R.file_bytes sources.now) line.now.cert) line.now.task (W.contents out.old) (W.contents out.new) }
+    ensures write_failed { IsErrOf result Fault.Write → RefusedBetween (W.tally out.old) (W.tally out.new) }
 {
     match line.script {
         Source::Input => run_script(alloc, sources, line, sources.input(), out),
