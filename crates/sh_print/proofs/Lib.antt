@@ -1,5 +1,6 @@
 pub mod TreeLemmas
 pub mod TextLemmas
+pub mod SizeLemmas
 pub mod Printable
 pub mod MadeLemmas
 pub mod PlaceLemmas

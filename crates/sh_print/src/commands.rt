@@ -1,5 +1,6 @@
 //! Commands, lists and whole scripts (XCU 2.9).
-ghost use Rattle.std.specs.Prelude.{◌≡◌, ◌+◌, ◌∷◌, ◌++◌, [], codes, map, IfOk, OnOk};
+ghost use Rattle.std.specs.Prelude.{◌≡◌, ◌+◌, ◌<◌, ◌∷◌, ◌++◌, [], codes, length, map, IfErr, IfOk, OnErr, OnOk};
+ghost use Rattle.sh_tree.specs.declared.tree.Script.{out-Script};
 ghost use Rattle.sh_tree.specs.standard.Tree.{text_of};
 ghost use Rattle.sh_print.specs.Layout as layout;
 ghost use Rattle.sh_print.specs.Layout.{canon};
@@ -22,10 +23,12 @@ use std::alloc::{AllocError, Global};
 ///
 /// # Errors
 ///
-/// `AllocError` if a growth was refused.
+/// `AllocError` if a growth was refused, which requires a text that is not empty.
+#[tactic(auto, using(crate::proofs::SizeLemmas::text_some))]
 pub fn print(alloc: Global, script: &[u8], tree: &Script) -> Result<Vec<u8>, AllocError>
     ensures text { IfOk result (λ v. v.items ≡ canon script.now tree.now) }
     ensures reads { IfOk result (λ v. IsReadBack script.now tree.now v.items) }
+    ensures memory { IfErr result (λ _. 0 < length (canon script.now tree.now)) }
 {
     let mut out = Vec::new(alloc);
     push_script(&mut out, script, 0, tree)?;
@@ -39,7 +42,8 @@ fn push_script(
     depth: usize,
     list: &Script,
 ) -> Result<(), AllocError>
-    ensures { OnOk result (out.new.items ≡ out.old.items ++ layout.items_text depth (script_of script.now list.now)) }
+    ensures text { OnOk result (out.new.items ≡ out.old.items ++ layout.items_text depth (script_of script.now list.now)) }
+    ensures memory { OnErr result (0 < length (out-Script list.now).items) }
 {
     let items = list.items.as_slice();
     for item in items {

@@ -1,10 +1,11 @@
 -- Tables of texts: the first text that is at the front is found.
-use Rattle.std.proofs.Common.{◌≡◌, ℕ, ◌<◌, ◌≤◌, Bool, true, false, List, [], ◌∷◌, ◌++◌, length, drop, refl, sym, ap, ◌∙◌, arith, ⊎_elim, length-append, nat_eq, nat_lt}
+use Rattle.std.proofs.Common.{◌≡◌, ℕ, ◌<◌, ◌≤◌, Bool, true, false, List, [], ◌∷◌, ◌++◌, length, drop, slice_index, refl, sym, ap, ◌∙◌, arith, ⊎_elim, length-append, nat_eq, nat_lt}
 use Rattle.std.specs.Prelude.{Option, Some, None, IfSome}
 use Rattle.std.specs.List.{starts_with, list_all}
 use Rattle.std.proofs.lemmas.Bool.{cases_Bool, false≢true, cond-true, cond-false, and_parts, ltb-true}
 use Rattle.std.proofs.lemmas.Bool.Decides.{Decides-eqb}
 use Rattle.std.proofs.lemmas.Slice.Eq.{starts_is}
+use Rattle.sh_tree.specs.standard.Words.{behind_first}
 use Rattle.sh_tree.specs.standard.language.Bytes.{is_first, longest}
 
 -- two texts, one of which begins with a byte of a class, and the other does not
@@ -18,6 +19,22 @@ apart_at_first p (d ∷ t) (c ∷ cs) h none = go (nat_eq d c) refl
     go true e = let same : d ≡ c = (Decides-eqb d c).0 e in absurd (false≢true (sym none ∙ ap p (sym same) ∙ h))
     go false e = rw e refl
 
+-- a text is its first byte and what is left
+pub first_and_rest : (cs : List ℕ) → 1 ≤ length cs → slice_index cs 0 ∷ drop 1 cs ≡ cs
+first_and_rest [] h = absurd (omega (arith, h))
+first_and_rest (c ∷ cs) h = refl
+
+-- two texts whose second bytes are apart so
+apart_at_second : (p : ℕ → Bool) (t cs : List ℕ) → is_first p (behind_first t) ≡ true → is_first p (behind_first cs) ≡ false → starts_with nat_eq cs t ≡ false
+unfolding is_first
+apart_at_second p [] cs h none = absurd (false≢true h)
+apart_at_second p (d ∷ t) [] h none = refl
+apart_at_second p (d ∷ t) (c ∷ cs) h none = go (nat_eq d c) refl
+  where
+    go : (b : Bool) → nat_eq d c ≡ b → starts_with nat_eq (c ∷ cs) (d ∷ t) ≡ false
+    go true e = rw e (apart_at_first p t cs h none)
+    go false e = rw e refl
+
 module _ {A : Type 0} where
   -- nothing is found if each text of the table begins with a byte of a class, and the text does not
   pub none_begins : (p : ℕ → Bool) (xs : List (List ℕ × A)) (cs : List ℕ) → list_all (λ x. is_first p x.0) xs ≡ true → is_first p cs ≡ false → None ≡ longest xs cs
@@ -25,6 +42,13 @@ module _ {A : Type 0} where
   none_begins p [] cs h none = refl
   none_begins p (x ∷ xs) cs h none =
       none_begins p xs cs (and_parts _ _ h).1 none ∙ sym (cond-false _ _ _ (apart_at_first p x.0 cs (and_parts _ _ h).0 none))
+
+  -- nor if each text has such a second byte, and the text does not
+  pub none_goes_on : (p : ℕ → Bool) (xs : List (List ℕ × A)) (cs : List ℕ) → list_all (λ x. is_first p (behind_first x.0)) xs ≡ true → is_first p (behind_first cs) ≡ false → None ≡ longest xs cs
+  unfolding longest
+  none_goes_on p [] cs h none = refl
+  none_goes_on p (x ∷ xs) cs h none =
+      none_goes_on p xs cs (and_parts _ _ h).1 none ∙ sym (cond-false _ _ _ (apart_at_second p x.0 cs (and_parts _ _ h).0 none))
 
   -- what the first table finds is found
   pub longest_found : (xs ys : List (List ℕ × A)) (cs : List ℕ) (found : A × ℕ) → Some found ≡ longest xs cs → Some found ≡ longest (xs ++ ys) cs

@@ -198,6 +198,21 @@ pub not_named : (x : Table) (n : ℕ) → None ≡ text_at x n 0 → None ≡ ca
 unfolding callee_at called
 not_named x n e = ap (called x.functions.names) e
 
+-- if there are no functions, none is called
+none_among : (names : List Text) (o : Static) → length names < 1 → None ≡ called names o
+unfolding called
+none_among [] None few = refl
+none_among [] (Some t) few = either (is_special (kind_of t)) None
+  where
+    either : (b : Bool) (o : Option ℕ) → o ≡ cond b o o
+    either true o = refl
+    either false o = refl
+none_among (name ∷ names) o few = absurd (omega (arith, few))
+
+pub none_called : (x : Table) (n : ℕ) → length x.functions.names < 1 → None ≡ callee_at x n
+unfolding callee_at
+none_called x n few = none_among x.functions.names (text_at x n 0) few
+
 pub special_named : (x : Table) (n : ℕ) (t : List ℕ) → Some t ≡ text_at x n 0 → is_special (kind_of t) ≡ true → None ≡ callee_at x n
 unfolding callee_at called
 special_named x n t e h = let here : None ≡ called x.functions.names (Some t) = rw h refl in here ∙ ap (called x.functions.names) e

@@ -222,9 +222,8 @@ impl<'s> CallTable<'s> {
         self.functions.definitions(function as usize - 1)
     }
 
-    /// The function that a command calls, if it is a simple command whose name is static and a
-    /// function's. The name is no special built-in utility's (XCU 2.9.1.4).
-    pub fn callee(&self, command: u32) -> Option<u32>
+    // The function that a command calls.
+    fn called(&self, command: u32) -> Option<u32>
         ensures { result ≡ calls.callee_at self.now command }
     {
         let name = self.text(command, 0)?;
@@ -233,5 +232,16 @@ impl<'s> CallTable<'s> {
         }
         let place = self.functions.place(name)?;
         Some(place as u32 + 1)
+    }
+
+    /// The function that a command calls, if it is a simple command whose name is static and a
+    /// function's. The name is no special built-in utility's (XCU 2.9.1.4).
+    pub fn callee(&self, command: u32) -> Option<u32>
+        ensures { result ≡ calls.callee_at self.now command }
+    {
+        match self.functions.names() {
+            [] => None,
+            [_, ..] => self.called(command),
+        }
     }
 }

@@ -1,5 +1,5 @@
 //! Operators (XCU 2.10.2).
-ghost use Rattle.std.specs.Prelude.{◌≡◌, ◌≤◌, ◌<◌, ◌++◌, length, IfSome};
+ghost use Rattle.std.specs.Prelude.{◌≡◌, ◌≤◌, ◌<◌, ◌++◌, ◌∷◌, ℕ, List, length, IfSome};
 ghost use Rattle.sh_tree.specs.standard.language.Bytes as bytes;
 ghost use Rattle.sh_tree.specs.standard.language.Bytes.{longest};
 ghost use Rattle.sh_tree.specs.standard.language.Commands as commands;
@@ -7,6 +7,7 @@ ghost use Rattle.sh_tree.specs.standard.language.Commands as commands;
 use crate::bytes::is_operator_byte;
 use crate::front::{behind_joined, is_joined};
 use crate::pieces::begins_so;
+use sh_tree::text::behind_first;
 use sh_tree::{Direction, MAX_SCRIPT, Operator};
 
 /// The operator of two bytes or more at the front of both pieces.
@@ -41,27 +42,41 @@ fn long_operator(front: &[u8], rest: &[u8]) -> Option<(Operator, usize)>
     }
 }
 
-/// The operator of one byte at the front of both pieces.
+/// The operator that a byte alone is.
 #[tactic(auto, unfolding(sh_tree::specs::standard::language::Bytes::longest))]
+fn lone_operator(byte: u8) -> Option<(Operator, usize)>
+    ensures { (cs : List ℕ) → result ≡ longest commands.short_operators (byte ∷ cs) }
+{
+    match byte {
+        b'&' => Some((Operator::And, 1)),
+        b';' => Some((Operator::Semicolon, 1)),
+        b'|' => Some((Operator::Bar, 1)),
+        b'(' => Some((Operator::LeftParenthesis, 1)),
+        b')' => Some((Operator::RightParenthesis, 1)),
+        b'<' => Some((Operator::Less, 1)),
+        b'>' => Some((Operator::Greater, 1)),
+        _ => None,
+    }
+}
+
+/// The operator of one byte at the front.
+#[tactic(auto, unfolding(sh_tree::specs::standard::language::Bytes::longest))]
+fn short_at(rest: &[u8]) -> Option<(Operator, usize)>
+    ensures { result ≡ longest commands.short_operators rest.now }
+{
+    match rest {
+        [] => None,
+        [first, ..] => lone_operator(*first),
+    }
+}
+
+/// The operator of one byte at the front of both pieces.
 fn short_operator(front: &[u8], rest: &[u8]) -> Option<(Operator, usize)>
     ensures { result ≡ longest commands.short_operators (front.now ++ rest.now) }
 {
-    if begins_so(front, rest, b"&") {
-        Some((Operator::And, 1))
-    } else if begins_so(front, rest, b";") {
-        Some((Operator::Semicolon, 1))
-    } else if begins_so(front, rest, b"|") {
-        Some((Operator::Bar, 1))
-    } else if begins_so(front, rest, b"(") {
-        Some((Operator::LeftParenthesis, 1))
-    } else if begins_so(front, rest, b")") {
-        Some((Operator::RightParenthesis, 1))
-    } else if begins_so(front, rest, b"<") {
-        Some((Operator::Less, 1))
-    } else if begins_so(front, rest, b">") {
-        Some((Operator::Greater, 1))
-    } else {
-        None
+    match front {
+        [] => short_at(rest),
+        [first, ..] => lone_operator(*first),
     }
 }
 
@@ -95,6 +110,10 @@ pub fn operator_of(rest: &[u8]) -> Option<(Operator, usize)>
 {
     if !begins_operator(rest) {
         return None;
+    }
+    // The second byte of a longer operator begins one too.
+    if !begins_operator(behind_first(rest)) {
+        return short_at(rest);
     }
     operator_over(rest, &[])
 }

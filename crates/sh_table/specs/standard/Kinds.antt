@@ -1,6 +1,7 @@
 -- What the name of a command means.
--- POSIX.1-2024, XCU 2.9.1.4 (command search and execution), 2.15 (special built-in utilities). A
--- name that no table here has is a utility that changes no variable and no function.
+-- POSIX.1-2024, XCU 2.4 (reserved words), 2.9.1.1 (declaration utilities), 2.9.1.4 (command search
+-- and execution), 2.15 (special built-in utilities), 3 (utilities). A name that no table here has
+-- is a utility that changes no variable and no function.
 use Rattle.std.specs.Prelude.{ℕ, ◌==◌, Bool, true, false, length, List, [], ◌∷◌, ◌++◌, map, codes, if◌then◌else◌}
 use Rattle.std.specs.List.{filter}
 use Rattle.std.specs.Str.{bytes_eq}
@@ -11,6 +12,7 @@ use Rattle.sh_tree.specs.standard.program.Syntax.{Text}
 use Rattle.sh_table.specs.declared.kind.Kind.{Kind}
 use Rattle.sh_table.specs.declared.kind.Kind.TheVariants as kind
 
+-- names of commands, each with what it means
 abbrev pub Table : Type 0
 Table = List (Text × Kind)
 
@@ -30,6 +32,7 @@ special_names =
     ∷ known.Shift ∷ known.Times ∷ known.Trap ∷ known.Unset ∷ [])
 
 -- other utilities that change what is set, run a command by its name, or have a known status
+-- (XCU 3)
 abbrev pub known_names : Table
 known_names =
     (codes "cd", kind.Cd) ∷ (codes "command", kind.Command) ∷ (codes "false", kind.False) ∷ (codes "getopts", kind.Getopts) ∷ (codes "read", kind.Read)
@@ -38,8 +41,8 @@ known_names =
 abbrev pub refused : KnownName → Text × Kind
 refused n = (known_text n, kind.Refused n)
 
--- utilities that run what is in no reading of a script; names to which the standard gives no
--- meaning; words that other shells reserve
+-- Utilities that run what is in no reading of a script (XCU 3). Names whose results the standard
+-- leaves open (XCU 2.9.1.4). Words that other shells reserve (XCU 2.4).
 abbrev pub refused_names : Table
 refused_names =
     map refused
@@ -47,10 +50,11 @@ refused_names =
     ∷ known.Nameref ∷ known.Integer ∷ known.Float ∷ known.Mapfile ∷ known.Readarray ∷ known.Shopt ∷ known.LeftBrackets ∷ known.RightBrackets ∷ known.Function
     ∷ known.Select ∷ known.Time ∷ known.Namespace ∷ [])
 
+-- the names that are no mere utilities (XCU 2.9.1.4)
 abbrev pub all_names : Table
 all_names = special_names ++ known_names ++ refused_names
 
--- what the name means
+-- what the name means (XCU 2.9.1.4)
 unfoldable pub kind_of : Text → Kind
 kind_of t = look_up all_names t
 
@@ -79,7 +83,7 @@ is_declaration (kind.Special known.Export) = true
 is_declaration (kind.Special known.Readonly) = true
 is_declaration _ = false
 
--- a special built-in utility
+-- a special built-in utility (XCU 2.15)
 unfoldable pub is_special : Kind → Bool
 is_special (kind.Special name) = true
 is_special _ = false

@@ -57,6 +57,7 @@ form_name form.HereTab = codes "a tab after a continuation in a here-document"
 abbrev pub form_text : Form → List ℕ
 form_text f = outside (form_name f)
 
+-- the special built-in utilities (XCU 2.15), and names that are refused as commands
 abbrev pub known_text : KnownName → List ℕ
 known_text known.Break = codes "break"
 known_text known.Colon = codes ":"
@@ -95,10 +96,12 @@ known_text known.Select = codes "select"
 known_text known.Time = codes "time"
 known_text known.Namespace = codes "namespace"
 
+-- the declaration utilities (XCU 2.9.1.1) that are refused with quotes
 abbrev pub declaration_text : Declaration → List ℕ
 declaration_text declaration.Export = codes "export"
 declaration_text declaration.Readonly = codes "readonly"
 
+-- the subject of the report of a rule that is broken
 unfoldable pub rule_name : Rule → List ℕ
 rule_name rule.ComputedName = codes "a computed command name"
 rule_name (rule.Refused name) = known_text name

@@ -1,6 +1,6 @@
 -- What definitions read off a tree: the lone command of a pipeline, the elements of a command and
 -- the static text of a word.
--- POSIX.1-2024, XCU 2.2 (quoting), 2.6 (word expansions), 2.9.1 (simple commands).
+-- POSIX.1-2024, XCU 2.2 (quoting), 2.6 (word expansions), 2.9.1 (simple commands), 2.14 (patterns).
 use Rattle.std.specs.Prelude.{◌≡◌, ℕ, Bool, false, not, ◌&&◌, ◌||◌, ◌==◌, ◌-◌, length, take, drop, if◌then◌else◌, List, [], ◌∷◌, ◌++◌, Option, Some, None, refl}
 use Rattle.std.proofs.Common.{◌∙◌, ap}
 use Rattle.std.specs.List.{filter_map, list_any}
@@ -19,7 +19,7 @@ use Rattle.sh_tree.specs.declared.tree.Element.TheBlock.{hidden-the_row-Part-0, 
 use Rattle.sh_tree.specs.standard.Tree.{text_of}
 use Rattle.sh_tree.specs.standard.language.Characters as byte
 
--- Commands
+-- Commands (XCU 2.9.1)
 
 -- the command of a pipeline of one
 unfoldable pub lone_part : List Command → Option Command
@@ -36,7 +36,7 @@ pub elements_of_simple : (es : List Element) → elements_of (Simple es) ≡ es
 unfolding elements_of
 elements_of_simple es = items_hidden-the_row-Element-3 es
 
--- what an element is
+-- what an element of a simple command is (XCU 2.9.1)
 pub data Form : Type 0 where
   Assigns : Span → Word → Form
   Operand : Word → Form
@@ -59,6 +59,7 @@ pub form_of_redirection : (r : Redirect) → form_of (element.Redirection r) ≡
 unfolding form_of
 form_of_redirection r = refl
 
+-- the word of an element that is one: the command name or an operand
 unfoldable pub word_in : Form → Option Word
 word_in (Operand w) = Some w
 word_in _ = None
@@ -66,11 +67,11 @@ word_in _ = None
 abbrev pub word_of : Element → Option Word
 word_of e = word_in (form_of e)
 
--- the command name and the operands
+-- the command name and the operands (XCU 2.9.1)
 abbrev pub words_of : List Element → List Word
 words_of es = filter_map word_of es
 
--- Static text
+-- Static text: what quote removal leaves of a word in which nothing is expanded (XCU 2.6.7)
 
 -- two texts one after the other, if both are static
 abbrev pub both_texts : Option (List ℕ) → Option (List ℕ) → Option (List ℕ)
@@ -78,9 +79,11 @@ both_texts None b = None
 both_texts (Some a) None = None
 both_texts (Some a) (Some b) = Some (a ++ b)
 
+-- the text without its first byte
 abbrev pub behind_first : List ℕ → List ℕ
 behind_first t = drop 1 t
 
+-- the text without its first and its last byte
 abbrev pub between_ends : List ℕ → List ℕ
 between_ends t = take (length t - 2) (drop 1 t)
 
@@ -98,7 +101,7 @@ escape_of c =
     else (if c == byte.small_v then byte.vertical_tab
     else c)))))))
 
--- what is between `$'` and `'`, with one byte for each backslash and the byte after it
+-- what is between `$'` and `'`, with one byte for each backslash and the byte after it (XCU 2.2.4)
 unfoldable pub escaped : List ℕ → List ℕ
 escaped [] = []
 escaped (c ∷ []) = c ∷ []
@@ -109,7 +112,7 @@ abbrev pub single_text : SingleStyle → List ℕ → List ℕ
 single_text single.Plain t = between_ends t
 single_text single.Dollar t = escaped (between_ends (behind_first t))
 
--- the text of a part without its quoting, if it holds no expansion and is no tilde-prefix
+-- the text of a part without its quoting (XCU 2.2), if it holds no expansion and is no tilde-prefix
 unfoldable mutual
   pub part_text : List ℕ → Part → Option (List ℕ)
   part_text b (Plain s) = Some (text_of b s)
@@ -128,7 +131,7 @@ unfoldable pub parts_text : List ℕ → List Part → Option (List ℕ)
 parts_text b [] = Some []
 parts_text b (x ∷ xs) = both_texts (part_text b x) (parts_text b xs)
 
--- `*` and `?`
+-- `*` and `?` (XCU 2.14)
 abbrev pub is_wildcard : ℕ → Bool
 is_wildcard c = c == 42 || c == 63
 
@@ -142,7 +145,7 @@ unfoldable pub has_bracket : List ℕ → Part → Bool
 has_bracket b (Plain s) = list_any (λ c. c == 91) (text_of b s)
 has_bracket b _ = false
 
--- the whole word is `[`
+-- the whole word is `[`, which begins no bracket expression and matches itself (XCU 2.14)
 unfoldable pub is_bracket : List ℕ → List Part → Bool
 is_bracket b (Plain s ∷ []) = bytes_eq (text_of b s) (91 ∷ [])
 is_bracket b _ = false
@@ -151,7 +154,8 @@ is_bracket b _ = false
 unfoldable pub is_pattern : List ℕ → List Part → Bool
 is_pattern b ps = list_any (has_wildcard b) ps || (list_any (has_bracket b) ps && not (is_bracket b ps))
 
--- the text of a word without its quoting, if it holds no expansion, no tilde-prefix and no pattern
+-- the text of a word without its quoting (XCU 2.6.7), if it holds no expansion, no tilde-prefix and
+-- no pattern
 unfoldable pub static_text : List ℕ → List Part → Option (List ℕ)
 static_text b ps = if is_pattern b ps then None else parts_text b ps
 

@@ -13,8 +13,8 @@ use Rattle.sh_print.proofs.TextLemmas.{after, branches_of_first, case_pushed, cl
 use Rattle.sh_print.proofs.TreeLemmas.{kind_of-Simple, kind_of-Group, kind_of-Subshell, kind_of-if, kind_of-else, kind_of-Loop, kind_of-For, kind_of-Branches, kind_of-Define}
 use Rattle.sh_print.proofs.commands.+print.Goals as goal
 
-pub push_script-returns : goal.push_script-returns
-push_script-returns t c =
+pub push_script-returns-clause-text : goal.push_script-returns-clause-text
+push_script-returns-clause-text t c =
     let f = item_text c.args.depth c.args.script.now in
     flat_done f c.as_slice-items.result.now c.loop-item.item-index _ _ c.loop-item-test.false c.loop-item.invariant
     ∙ ap (λ t. c.args.out.now.items ++ t) (ap (flat_map f) c.as_slice-items.ensures ∙ sym (script_flat c.args.depth c.args.script.now c.args.list.now))

@@ -10,6 +10,7 @@ use Rattle.sh_table.specs.standard.runs.Environment.{with_variable}
 use Rattle.sh_table.specs.standard.runs.Numbers.{integer_text, is_zero, is_computed}
 use Rattle.sh_table.specs.standard.runs.States.{State, met, taken, with_environment, ending, stray}
 
+-- the value of an expression, and the state afterwards
 pub record Computed : Type 0 where
   pub value : ℤ
   pub state : State
@@ -17,11 +18,11 @@ pub record Computed : Type 0 where
 abbrev pub computes : ℤ → State → Computed
 computes n s = record { value = n; state = s }
 
--- the next answer is the result
+-- the next answer is the result (XCU 2.6.4)
 abbrev pub answered : State → Computed
 answered s = computes (s.given 0).integer (taken s)
 
--- that of an operation, which may fail
+-- that of an operation, which may fail, as a division by zero does (XCU 2.6.4, 1.1.2.1)
 unfoldable pub operated : State → Computed
 operated s = if (s.given 0).fails then computes (s.given 0).integer (ending (taken s)) else answered s
 
@@ -29,7 +30,7 @@ operated s = if (s.given 0).fails then computes (s.given 0).integer (ending (tak
 unfoldable pub then_computed : Computed → (ℤ → State → Computed) → Computed
 then_computed r next = if r.state.ended then r else next r.value r.state
 
--- a name is read: it has to be set, and to an integer constant or to nothing
+-- a name is read (XCU 2.6.4): it has to be set, and to an integer constant or to nothing
 unfoldable pub read_name : Option Text → State → State
 read_name None s = met s
 read_name (Some t) s = if is_computed t then s else stray s
@@ -38,26 +39,29 @@ abbrev pub named : Text → State → State
 named name s = read_name (s.environment.variables name) s
 
 -- the right side of `&&` is not computed after zero, nor that of `||` after another value
+-- (XCU 1.1.2.1)
 unfoldable pub skips : Binary → Bool → Bool
 skips binary.And zero = zero
 skips binary.Or zero = not zero
 skips _ zero = false
 
--- an operator before `=` reads the name, now or not
+-- an operator before `=` reads the name, now or not (XCU 1.1.2.1)
 unfoldable pub read_where : Bool → Option Binary → Text → State → State
 read_where reads None name s = s
 read_where reads (Some operator) name s = if reads then named name s else s
 
--- the name gets the value
+-- the name gets the value (XCU 2.6.4)
 abbrev pub stored : Text → Computed → Computed
 stored name r = computes r.value (with_environment r.state (with_variable r.state.environment name (Some (integer_text r.value))))
 
--- a value is assigned to the name, which is read before the value is computed, or after that
+-- a value is assigned to the name (XCU 1.1.2.1), which is read before the value is computed, or
+-- after that
 unfoldable pub operated_assignment : Bool → Text → Option Binary → (State → Computed) → State → Computed
 operated_assignment first name operator value s =
     then_computed (value (read_where first operator name s))
     (λ n t. then_computed (operated (read_where (not first) operator name t)) (λ m u. stored name (computes m u)))
 
+-- An expression is computed (XCU 1.1.2.1, 2.6.4). Of `?:` one side is.
 unfoldable mutual
   pub evaluate : Expression → State → Computed
   evaluate (Constant t) s = answered s

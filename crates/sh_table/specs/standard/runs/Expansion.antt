@@ -1,7 +1,6 @@
 -- What a word expands to, and what its expansion does. It may set variables, start processes, meet
 -- a parameter that is not set, and end the process.
--- POSIX.1-2024, XCU 2.5 (parameters), 2.6.1 (tilde), 2.6.2 (parameters), 2.6.3 (substitution),
--- 2.6.4 (arithmetic), 2.6.7 (quotes).
+-- POSIX.1-2024, XCU 2.2.3 (double quotes), 2.5 (parameters), 2.6 (word expansions).
 use Rattle.std.specs.Prelude.{ℕ, ◌-◌, ◌==◌, Bool, true, false, not, ◌&&◌, ◌||◌, if◌then◌else◌, List, [], ◌∷◌, ◌++◌, length, take, codes, Option, Some, None, is_some, slice_get}
 use Rattle.std.specs.List.{flat_map}
 use Rattle.sh_tree.specs.declared.tree.Action.{Action}
@@ -15,40 +14,41 @@ use Rattle.sh_table.specs.standard.runs.Answers.{Given}
 use Rattle.sh_table.specs.standard.runs.States.{State, met, taken, with_environment, started, ending, stray}
 use Rattle.sh_table.specs.standard.runs.Arithmetic.{Computed, evaluate}
 
--- where bytes come from: the word itself, quotes, or an expansion outside quotes
+-- where bytes come from: the word itself, quotes, or an expansion outside quotes (XCU 2.6.5)
 pub data Origin : Type 0 where
   Literal : Origin
   Quoted : Origin
   Unquoted : Origin
 
--- bytes with their origin; a break between two fields, as `"$@"` makes them
+-- bytes with their origin; a break between two fields, as `"$@"` makes them (XCU 2.5.2)
 pub data Piece : Type 0 where
   Bytes : Origin → Text → Piece
   Break : Piece
 
--- how a word is read: whether its fields are split, and the origin of its plain bytes
+-- how a word is read: whether its fields are split (XCU 2.6.5), and the origin of its plain bytes
 pub record Context : Type 0 where
   pub split : Bool
   pub plain : Origin
 
--- a command name, an operand, a word of `for`
+-- a command name, an operand, a word of `for` (XCU 2.6)
 abbrev pub in_fields : Context
 in_fields = record { split = true; plain = Literal }
 
 -- a word that is one field whatever it holds: a value, the target of a redirection, a word or a
--- pattern of `case`
+-- pattern of `case` (XCU 2.6)
 abbrev pub in_one : Context
 in_one = record { split = false; plain = Literal }
 
+-- in double quotes (XCU 2.2.3)
 abbrev pub in_quotes : Context → Context
 in_quotes c = record c { plain = Quoted }
 
--- the origin of what an expansion gives
+-- the origin of what an expansion gives (XCU 2.6.5)
 unfoldable pub value_origin : Origin → Origin
 value_origin Quoted = Quoted
 value_origin _ = Unquoted
 
--- the word after `-` and `+`, whose own bytes are split too
+-- the word after `-` and `+`, whose own bytes are split too (XCU 2.6.2, 2.6.5)
 abbrev pub in_default : Context → Context
 in_default c = record c { plain = value_origin c.plain }
 
@@ -60,7 +60,7 @@ piece_text Break = []
 abbrev pub pieces_text : List Piece → Text
 pieces_text ps = flat_map piece_text ps
 
--- what an expansion gives, and the state afterwards
+-- what an expansion gives, and the state afterwards (XCU 2.6)
 pub record Outcome : Type 0 where
   pub pieces : List Piece
   pub state : State
@@ -84,16 +84,16 @@ broken origin [] = []
 broken origin (t ∷ []) = Bytes origin t ∷ []
 broken origin (t ∷ u ∷ ts) = Bytes origin t ∷ Break ∷ broken origin (u ∷ ts)
 
--- All positional parameters as one text. Between two of them, `$*` has the first separator (XCU
--- 2.5.2), and `$@`, for which the standard leaves it open, a space.
+-- All positional parameters as one text. Between two of them, `$*` has the first separator
+-- (XCU 2.5.2), and `$@`, for which the standard leaves it open, a space.
 abbrev pub star_text : Environment → Frame → Text
 star_text e f = joined_by (take 1 (separators e)) f
 
 abbrev pub at_text : Frame → Text
 at_text f = joined_by (32 ∷ []) f
 
--- `$*`: in quotes, and if fields are not split, it is one text, and otherwise each parameter is a
--- field of its own
+-- `$*` (XCU 2.5.2): in quotes, and if fields are not split, it is one text, and otherwise each
+-- parameter is a field of its own
 unfoldable pub star_pieces : Context → Environment → Frame → List Piece
 star_pieces c e f = if c.split then star_split (value_origin c.plain) else Bytes (value_origin c.plain) (star_text e f) ∷ []
   where
@@ -101,11 +101,12 @@ star_pieces c e f = if c.split then star_split (value_origin c.plain) else Bytes
     star_split Quoted = Bytes Quoted (star_text e f) ∷ []
     star_split origin = broken origin f
 
--- `$@`: each parameter is a field of its own, in quotes too
+-- `$@` (XCU 2.5.2): each parameter is a field of its own, in quotes too
 unfoldable pub at_pieces : Context → Frame → List Piece
 at_pieces c f = if c.split then broken (value_origin c.plain) f else Bytes (value_origin c.plain) (at_text f) ∷ []
 
 -- whether the word is `$@` alone, or holds it: double quotes round it give no field of their own
+-- (XCU 2.5.2)
 unfoldable pub is_every : Part → Bool
 is_every (Expansion at (Special special.At) Value) = true
 is_every _ = false
@@ -114,7 +115,7 @@ unfoldable pub has_every : Word → Bool
 has_every no_parts = false
 has_every (more_parts x w) = is_every x || has_every w
 
--- what double quotes give beside what they hold: a field, which may be empty
+-- what double quotes give beside what they hold: a field, which may be empty (XCU 2.6)
 unfoldable pub quote_pieces : Bool → List Piece
 quote_pieces true = []
 quote_pieces false = Bytes Quoted [] ∷ []
@@ -124,7 +125,7 @@ is_empty_value None = false
 is_empty_value (Some t) = length t == 0
 
 module _ (f : Frame) (status : ℕ) where
-  -- the value of a parameter, if it is set
+  -- the value of a special parameter, if it is set (XCU 2.5.2)
   unfoldable pub special_value : tree.Special → Environment → Given → Option Text
   special_value special.At e g = Some (at_text f)
   special_value special.Asterisk e g = Some (star_text e f)
@@ -135,28 +136,30 @@ module _ (f : Frame) (status : ℕ) where
   special_value special.Exclamation e g = if e.job then Some (digits g.number) else None
   special_value special.Zero e g = Some g.text
 
+  -- the value of a parameter, if it is set (XCU 2.5)
   unfoldable pub value_of : Parameter → Environment → Given → Option Text
   value_of (Variable name) e g = e.variables name
   value_of (Positional n) e g = slice_get f (n - 1)
   value_of (Special c) e g = special_value c e g
 
-  -- the value of a parameter that has to be set: if it is not, that is an event
+  -- the value of a parameter that has to be set (XCU 2.6.2): if it is not, that is an event
   unfoldable pub needed : Context → Option Text → State → Outcome
   needed c (Some v) s = gives (Bytes (value_origin c.plain) v ∷ []) s
   needed c None s = gives (Bytes (value_origin c.plain) [] ∷ []) (met s)
 
+  -- the value of a parameter without an operator: `$@` and `$*` are always set (XCU 2.5.2)
   unfoldable pub value_pieces : Context → Parameter → Option Text → State → Outcome
   value_pieces c (Special special.At) v s = gives (at_pieces c f) s
   value_pieces c (Special special.Asterisk) v s = gives (star_pieces c s.environment f) s
   value_pieces c p v s = needed c v s
 
-  -- `=`: a variable gets the text, and nothing else can
+  -- `=`: a variable gets the text, and nothing else can (XCU 2.6.2)
   unfoldable pub default_assigned : Context → Parameter → Text → Bool → State → Outcome
   default_assigned c (Variable name) t false s = gives (Bytes (value_origin c.plain) t ∷ []) (with_environment s (with_variable s.environment name (Some t)))
   default_assigned c _ t _ s = gives [] (ending s)
 
-  -- `-`, `=`, `?` and `+`, with what the word after them expands to: in the same context, and as
-  -- one field
+  -- `-`, `=`, `?` and `+` (XCU 2.6.2), with what the word after them expands to: in the same
+  -- context, and as one field
   unfoldable pub used : Context → Parameter → Given → Action → Option Text → Bool → (State → Outcome) → (State → Outcome) → State → Outcome
   used c p g action.Default v true word text s = needed c v s
   used c p g action.Default v false word text s = word s
@@ -167,22 +170,26 @@ module _ (f : Frame) (status : ℕ) where
   used c p g action.Alternative v true word text s = word s
   used c p g action.Alternative v false word text s = gives [] s
 
-  -- an expansion inside arithmetic: its text has to be an integer constant
+  -- an expansion inside arithmetic (XCU 2.6.4): its text has to be an integer constant, or nothing
+  -- more is said of the run
   unfoldable pub constant_in : Outcome → State
   constant_in o = if o.state.ended || is_operand (pieces_text o.pieces) then o.state else stray o.state
 
+  -- what comes next, unless the process has ended
   unfoldable pub behind : State → (State → State) → State
   behind s next = if s.ended then s else next s
 
+  -- A tilde-prefix (XCU 2.6.1). Without a login name it is the value of HOME, and an event if that
+  -- is unset, which the standard leaves open.
   unfoldable pub tilde_pieces : Text → Given → State → Outcome
   tilde_pieces [] g s = needed (in_quotes in_one) (s.environment.variables (codes "HOME")) s
   tilde_pieces (c ∷ cs) g s = gives (Bytes Quoted g.text ∷ []) s
 
-  -- what arithmetic gives: all expansions in it come first, then it is computed
+  -- what arithmetic gives (XCU 2.6.4): all expansions in it come first, then it is computed
   unfoldable pub computed_pieces : Context → Computed → Outcome
   computed_pieces c r = gives (Bytes (value_origin c.plain) (integer_text r.value) ∷ []) r.state
 
-  -- Each expansion takes the next answer.
+  -- Each expansion takes the next answer. The order is that of the text (XCU 2.6).
   unfoldable mutual
     pub expand_part : Context → Part → State → Outcome
     expand_part c (Plain t) s = gives (Bytes c.plain t ∷ []) s
@@ -195,12 +202,13 @@ module _ (f : Frame) (status : ℕ) where
     expand_part c (Tilde at login) s = tilde_pieces login (s.given 0) (taken s)
     expand_part c Joined s = gives [] s
 
-    -- a word, part by part
+    -- a word, part by part (XCU 2.6)
     pub expand : Context → Word → State → Outcome
     expand c no_parts s = gives [] s
     expand c (more_parts x w) s = followed (expand_part c x s) (expand c w)
 
-    -- an expansion of a parameter that has this value; a colon counts an empty value as none
+    -- an expansion of a parameter that has this value (XCU 2.6.2); a colon counts an empty value as
+    -- none
     pub expand_operator : Context → Parameter → Operator → Given → Option Text → State → Outcome
     expand_operator c p Value g v s = value_pieces c p v s
     expand_operator c p Length g None s = gives (Bytes (value_origin c.plain) (digits 0) ∷ []) (met s)
@@ -210,7 +218,7 @@ module _ (f : Frame) (status : ℕ) where
     expand_operator c p (Remove removal w) g v s =
         followed (gives [] (needed c v s).state) (λ t. followed (gives [] (expand in_one w t).state) (gives (Bytes (value_origin c.plain) g.text ∷ [])))
 
-    -- the expansions inside an expression, in the order of the text
+    -- the expansions inside an expression, in the order of the text (XCU 2.6.4)
     pub expand_inside : Expression → State → State
     expand_inside (Constant t) s = s
     expand_inside (Name at name) s = s

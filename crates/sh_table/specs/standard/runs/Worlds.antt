@@ -1,6 +1,6 @@
 -- Processes, what they share, and runs.
--- POSIX.1-2024, XCU 2.9.2 (pipelines), 2.9.3.1 (asynchronous lists), 2.13 (shell execution
--- environment).
+-- POSIX.1-2024, XCU 2.5.3 (shell variables), 2.6 (word expansions), 2.9 (shell commands), 2.13
+-- (shell execution environment).
 use Rattle.std.specs.Prelude.{◌≡◌, ℕ, zero, suc, ◌≤◌, Bool, true, false, ◌||◌, ◌==◌, if◌then◌else◌, List, [], ◌∷◌, length, codes, Option, Some, None, is_some, unwrap_or, option_map, option_and_then}
 use Rattle.sh_tree.specs.standard.program.Syntax.{Text}
 use Rattle.sh_tree.specs.standard.program.Syntax as p
@@ -13,8 +13,9 @@ use Rattle.sh_table.specs.standard.runs.Steps.{act}
 unfoldable pub put : {A : Type 0} → (ℕ → A) → ℕ → A → ℕ → A
 put f n v k = if k == n then v else f k
 
--- A process: the numbers of its environment and of its frames, the innermost first; the process
--- whose environment it shares and that waits for it; its last status; its work.
+-- A process (XCU 2.13) has the numbers of its environment and of its frames, the innermost first,
+-- its last status, and its work. `parent`: the process whose environment it shares, which waits for
+-- it.
 pub record Process : Type 0 where
   pub environment : ℕ
   pub frames : List ℕ
@@ -40,13 +41,14 @@ unfoldable pub innermost : (ℕ → Frame) → List ℕ → Frame
 innermost frames [] = []
 innermost frames (n ∷ ns) = frames n
 
--- Waiting
+-- Waiting: a shell goes on when the parts that share its environment have ended (XCU 2.9.2)
 
 -- the process is a part of p
 unfoldable pub is_part_of : ℕ → Option Process → Bool
 is_part_of p None = false
 is_part_of p (Some r) = unwrap_or (option_map (λ q. q == p) r.parent) false
 
+-- f is true of a number below this one
 unfoldable pub any_below : ℕ → (ℕ → Bool) → Bool
 any_below zero f = false
 any_below (suc n) f = f n || any_below n f
@@ -55,7 +57,7 @@ any_below (suc n) f = f n || any_below n f
 unfoldable pub waits : World → ℕ → Bool
 waits w p = any_below w.next_process (λ q. is_part_of p (w.processes q))
 
--- What a step makes of the world
+-- What a step makes of the world (XCU 2.13)
 
 -- without the innermost frame
 unfoldable pub outer : List ℕ → List ℕ
@@ -68,7 +70,7 @@ frames_after w ns (Keeps f) = ns
 frames_after w ns (Pushes f) = w.next_frame ∷ ns
 frames_after w ns Pops = outer ns
 
--- the innermost frame gets other parameters, or a new one comes
+-- the innermost frame gets other parameters, or a new one comes (XCU 2.9.5)
 unfoldable pub with_frames : World → List ℕ → Frames → World
 with_frames w [] (Keeps f) = w
 with_frames w (n ∷ ns) (Keeps f) = record w { frames = put w.frames n f }
@@ -92,6 +94,7 @@ first_frame [] = []
 first_frame (n ∷ ns) = n ∷ []
 
 -- a process is started by p, whose environment and frames are these: it shares them, or has copies
+-- (XCU 2.13)
 unfoldable pub start : World → ℕ → Process → Start → World
 start w p r (Shares ws) =
     record (with_process w w.next_process (Some (record { environment = r.environment; frames = first_frame r.frames; parent = Some p; status = r.status; work = ws })))
@@ -116,7 +119,7 @@ apply w p r x =
     let changed = with_frames (with_environment w r.environment x.environment) r.frames x.frames in
     record (start_all (with_process changed p (stepped w r x.frames x.next)) p r x.starts) { over = x.strays }
 
--- who steps, and how
+-- who steps, and how (XCU 2.13)
 pub record Move : Type 0 where
   pub process : ℕ
   pub answer : Answer
@@ -125,6 +128,7 @@ pub record Move : Type 0 where
 unfoldable pub effect_of : World → Move → Process → Effect
 effect_of w m r = act (w.environments r.environment) (innermost w.frames r.frames) r.status r.work m.answer
 
+-- the process may step, if it waits for nobody and the run is not over
 unfoldable pub may_step : World → Move → Option Process → Option Process
 may_step w m None = None
 may_step w m (Some r) = if w.over || waits w m.process then None else Some r
@@ -133,14 +137,16 @@ may_step w m (Some r) = if w.over || waits w m.process then None else Some r
 abbrev pub stepping : World → Move → Option Process
 stepping w m = may_step w m (w.processes m.process)
 
+-- the world after a move, if there is one
 unfoldable pub step : World → Move → Option World
 step w m = option_map (λ r. apply w m.process r (effect_of w m r)) (stepping w m)
 
+-- the world after these moves, if each is one
 unfoldable pub run : List Move → World → Option World
 run [] w = Some w
 run (m ∷ ms) w = option_and_then (run ms) (step w m)
 
--- Events
+-- Events: parameters that are unset (XCU 2.6.2), and values that are split (XCU 2.6.5, 2.6.6)
 
 -- the step expands an unset parameter without a default
 unfoldable pub has_unset_event : World → Move → Bool
@@ -150,7 +156,7 @@ has_unset_event w m = unwrap_or (option_map (λ r. (effect_of w m r).unset) (ste
 unfoldable pub has_split_event : World → Move → Bool
 has_split_event w m = unwrap_or (option_map (λ r. (effect_of w m r).split) (stepping w m)) false
 
--- Starts
+-- Starts (XCU 2.5.3, 2.13)
 
 -- one process, with the program to run
 unfoldable pub start_world : Environment → Frame → p.Items → World
@@ -165,12 +171,13 @@ start_world e f t =
       over = false;
     }
 
--- set at the start of every run
+-- set at the start of every run (XCU 2.5.3)
 abbrev pub start_names : List Text
 start_names = codes "IFS" ∷ codes "OPTIND" ∷ codes "PPID" ∷ []
 
--- What is allowed at the start: the declared names and those of every start are set, IFS to space,
--- tab and newline; no function is defined; there are at least so many positional parameters.
+-- What is allowed at the start (XCU 2.5.3). The declared names and those of every start are set,
+-- IFS to space, tab and newline. No function is defined. There are at least so many positional
+-- parameters.
 pub record IsStart (names : List Text) (args : ℕ) (e : Environment) (f : Frame) : Type 0 where
   pub always : (t : Text) → is_one_of start_names t ≡ true → is_some (e.variables t) ≡ true
   pub declared : (t : Text) → is_one_of names t ≡ true → is_some (e.variables t) ≡ true

@@ -1,5 +1,6 @@
 -- The tokens of arithmetic, each the longest.
--- POSIX.1-2024, XCU 2.6.4 (arithmetic expansion), 1.1.2.1 (arithmetic precision and operations).
+-- POSIX.1-2024, XCU 2.6.4 (arithmetic expansion), 1.1.2.1 (arithmetic precision and operations),
+-- 2.2.1 (line continuation).
 use Rattle.std.specs.Prelude.{ℕ, ◌+◌, Bool, not, ◌&&◌, ◌||◌, if◌then◌else◌, ◌==◌, List, [], ◌∷◌, length, drop, codes, nat_eq, nat_lt, Option, Some, None}
 use Rattle.std.specs.List.{starts_with}
 use Rattle.sh_tree.specs.standard.language.Characters as byte
@@ -13,9 +14,9 @@ use Rattle.sh_tree.specs.declared.token.arithmetic.Figure.TheVariants as figure
 use Rattle.sh_tree.specs.declared.token.arithmetic.Lexeme.{Lexeme}
 use Rattle.sh_tree.specs.standard.language.Bytes.{is_in, is_blank, is_newline, is_backslash, is_digit, is_octal, is_hexadecimal, is_name_start, run, is_first, name_length, longest, is_joined, joined_at}
 
--- Blanks
+-- Blanks (XCU 2.6.4)
 
--- how many bytes of blanks, newlines and line continuations are at the front
+-- how many bytes of blanks, newlines and line continuations are at the front (XCU 2.2.1)
 unfoldable pub space_length : List ℕ → ℕ
 space_length [] = 0
 space_length (c ∷ []) = if is_blank c || is_newline c then 1 else 0
@@ -23,9 +24,10 @@ space_length (c ∷ d ∷ cs) =
     if is_blank c || is_newline c then 1 + space_length (d ∷ cs)
     else (if is_backslash c && is_newline d then 2 + space_length cs else 0)
 
--- Tokens
+-- Tokens (XCU 2.6.4)
 
--- the operators, longer ones first; refused ones are among them
+-- The operators, longer ones first (XCU 1.1.2.1). Those that the standard does not require are
+-- refused (`++`, `--`, a comma), as are quotes and backquotes.
 abbrev pub operator_table : List (List ℕ × Figure)
 operator_table =
     (codes "<<=", figure.Assign (Some op.ShiftLeft)) ∷ (codes ">>=", figure.Assign (Some op.ShiftRight))
@@ -47,14 +49,14 @@ operator_table =
     ∷ (codes "`", figure.LeftOut form.Backquoted) ∷ []
 
 -- how long the constant at the front is: hexadecimal after `0x` or `0X`, octal after `0`, else
--- decimal
+-- decimal (XCU 2.6.4)
 unfoldable pub constant_length : List ℕ → ℕ
 constant_length cs =
     if not (is_first (λ c. c == byte.digit_zero) cs) then run is_digit cs
     else (if is_first (is_in (codes "xX")) (drop 1 cs) && is_first is_hexadecimal (drop 2 cs) then run is_hexadecimal (drop 2 cs) + 2
     else run is_octal (drop 1 cs) + 1)
 
--- a name; `sizeof` is refused
+-- a name; `sizeof`, which the standard does not require, is refused (XCU 2.6.4)
 unfoldable pub name_figure : List ℕ → Figure × ℕ
 name_figure cs = if name_length cs == 6 && starts_with nat_eq cs (codes "sizeof") then (figure.LeftOut form.Arithmetic, 6) else (figure.Name, name_length cs)
 
@@ -66,7 +68,7 @@ abbrev pub figure_by : List ℕ → Option (Figure × ℕ) → Figure × ℕ
 figure_by cs (Some found) = found
 figure_by cs None = unknown cs
 
--- the token at the front and its length
+-- the token at the front and its length (XCU 2.6.4)
 unfoldable pub figure_of : List ℕ → Figure × ℕ
 figure_of cs =
     if length cs == 0 then (figure.End, 0)
@@ -74,7 +76,7 @@ figure_of cs =
     else (if is_first is_digit cs then (figure.Constant, constant_length cs)
     else figure_by cs (longest operator_table cs)))
 
--- line continuations after the first n bytes keep them from being a longer token
+-- line continuations after the first n bytes keep them from being a longer token (XCU 2.2.1)
 abbrev pub is_split : List ℕ → ℕ → Bool
 is_split cs n = is_joined (drop n cs) && nat_lt n (figure_of (joined_at n cs)).1
 
@@ -91,9 +93,9 @@ lexeme_start b i = i + space_length (drop i b)
 unfoldable pub lexeme : List ℕ → ℕ → Lexeme
 lexeme b i = lexeme_from (drop (lexeme_start b i) b) (lexeme_start b i) (figure_of (drop (lexeme_start b i) b))
 
--- Operators
+-- Operators (XCU 1.1.2.1)
 
--- the levels of binary operators, from loose to tight
+-- the levels of binary operators, from loose to tight, as in C (XCU 1.1.2.1)
 abbrev pub level_of : Binary → ℕ
 level_of op.Or = 0
 level_of op.And = 1
@@ -118,11 +120,12 @@ level_of op.Remainder = 9
 abbrev pub unary_level : ℕ
 unary_level = 10
 
--- the binary operator of a level
+-- the binary operator of a level (XCU 1.1.2.1)
 unfoldable pub binary_of : ℕ → Figure → Option Binary
 binary_of l (figure.Binary o) = if level_of o == l then Some o else None
 binary_of l _ = None
 
+-- the unary operators (XCU 1.1.2.1)
 unfoldable pub unary_of : Figure → Option Unary
 unary_of (figure.Binary op.Add) = Some unary.Plus
 unary_of (figure.Binary op.Subtract) = Some unary.Minus
@@ -130,10 +133,11 @@ unary_of figure.Complement = Some unary.Complement
 unary_of figure.Not = Some unary.Not
 unary_of _ = None
 
+-- an operator that assigns, and the binary one before its `=`, if there is one (XCU 1.1.2.1)
 unfoldable pub assignment_of : Figure → Option (Option Binary)
 assignment_of (figure.Assign o) = Some o
 assignment_of _ = None
 
--- the byte after a closing parenthesis closes the expansion too
+-- the byte after a closing parenthesis closes the expansion too (XCU 2.6.4)
 unfoldable pub is_closed : List ℕ → ℕ → Bool
 is_closed b i = is_first (λ c. c == byte.right_parenthesis) (drop i b)

@@ -12,15 +12,15 @@ use Rattle.sh_tree.specs.standard.language.Trees.{span}
 use Rattle.sh_tree.specs.standard.Tree.{text_of}
 use Rattle.sh_tree.specs.standard.Words.{parts_text}
 
--- a here-document whose body has not come: whether it strips tabs, whether its delimiter is quoted,
--- the delimiter, and how deep the operator is
+-- A here-document whose body has not come (XCU 2.7.4). It has whether it strips tabs, whether its
+-- delimiter is quoted, the delimiter, and how deep the operator is.
 pub record Mark : Type 0 where
   pub strip : Bool
   pub quoted : Bool
   pub delimiter : List ℕ
   pub depth : ℕ
 
--- Delimiters
+-- Delimiters (XCU 2.7.4)
 
 abbrev pub or_none : Option (List ℕ) → List ℕ
 or_none (Some t) = t
@@ -35,15 +35,16 @@ unfoldable pub is_dollar_quoted : Part → Bool
 is_dollar_quoted (Single single.Dollar s) = true
 is_dollar_quoted _ = false
 
--- no expansion, no tilde-prefix, no `$'` and no newline
+-- No expansion, no tilde-prefix, no `$'` and no newline (XCU 2.7.4). The standard has such
+-- delimiters too: they are refused.
 unfoldable pub is_delimiter : List ℕ → Word → Bool
 is_delimiter b w = is_static (parts_text b w.parts) && not (list_any is_dollar_quoted w.parts) && not (list_any is_newline (text_of b w.span))
 
--- the delimiter: the word without its quoting
+-- the delimiter: the word without its quoting (XCU 2.7.4)
 unfoldable pub delimiter_of : List ℕ → Word → List ℕ
 delimiter_of b w = or_none (parts_text b w.parts)
 
--- Lines
+-- Lines (XCU 2.7.4; joined as in 2.2.1)
 
 -- How long the line at the front is, without its newline. If lines are joined, a backslash keeps
 -- the byte after it from ending the line.
@@ -58,7 +59,7 @@ line_length joins (c ∷ d ∷ cs) =
 unfoldable pub line_end : Bool → List ℕ → ℕ → ℕ
 line_end joins b i = i + line_length joins (drop i b)
 
--- the text of a line without its line continuations
+-- the text of a line without its line continuations (XCU 2.2.1)
 unfoldable pub line_text : Bool → List ℕ → List ℕ
 line_text joins [] = []
 line_text joins (c ∷ []) = c ∷ []
@@ -66,8 +67,8 @@ line_text joins (c ∷ d ∷ cs) =
     if joins && is_backslash c then (if is_newline d then line_text joins cs else c ∷ d ∷ line_text joins cs)
     else c ∷ line_text joins (d ∷ cs)
 
--- what is compared with the delimiter: the line at i, joined if the delimiter is unquoted, without
--- the tabs that `<<-` strips
+-- What is compared with the delimiter (XCU 2.7.4): the line at i without the tabs that `<<-`
+-- strips. If the delimiter is unquoted, the line is joined, which the standard leaves open.
 unfoldable pub end_candidate : Mark → List ℕ → ℕ → List ℕ
 end_candidate m b i =
     let text = line_text (not m.quoted) (slice_range b i (line_end (not m.quoted) b i)) in
@@ -86,11 +87,11 @@ end_line_within (suc n) m b i =
     else (if bytes_eq (end_candidate m b i) m.delimiter then Some (span i (line_end (not m.quoted) b i))
     else end_line_within n m b (behind_line b (line_end (not m.quoted) b i)))
 
--- the line that ends the body that begins at i
+-- the line that ends the body that begins at i (XCU 2.7.4)
 unfoldable pub end_line : Mark → List ℕ → ℕ → Option Span
 end_line m b i = end_line_within (length b) m b i
 
--- Lines that are read in two ways
+-- Lines that are read in two ways (XCU 2.7.4)
 
 -- a line of the text begins with a tab; the first one does so only if the text begins a line
 unfoldable pub has_tabbed_line : Bool → List ℕ → Bool
@@ -104,19 +105,19 @@ has_joined p [] = false
 has_joined p (c ∷ []) = false
 has_joined p (c ∷ d ∷ cs) = if is_backslash c then (is_newline d && p cs) || has_joined p cs else has_joined p (d ∷ cs)
 
--- the text has a line continuation
+-- the text has a line continuation (XCU 2.2.1)
 abbrev pub is_split_text : List ℕ → Bool
 is_split_text t = has_joined (λ rest. true) t
 
 -- a tab follows a line continuation in the body from i to e: shells differ in whether `<<-` strips
--- it
+-- it (XCU 2.7.4)
 abbrev pub is_ambiguous : Mark → List ℕ → ℕ → ℕ → Bool
 is_ambiguous m b i e = m.strip && not m.quoted && has_joined (is_first is_tab) (slice_range b i e)
 
--- The lines of a here-document in the body of another are read in one way. In a joined body, a
--- quoted delimiter keeps its lines: they hold no continuation. Where tabs are stripped around it,
--- its lines lose them too, but only `<<-` says so: without it no line begins with a tab. The lines
--- are those from the body's first to the end line, with its newline.
+-- The lines of a here-document in the body of another are read in one way (XCU 2.7.4). In a joined
+-- body, a quoted delimiter keeps its lines: they hold no continuation. If tabs are stripped around
+-- it, its lines lose them too, and only `<<-` says so: without it no line begins with a tab. The
+-- lines are those from the body's first to the end line, with its newline.
 unfoldable pub keeps_document : List ℕ → Bool → Bool → Mark → Span → Bool
 keeps_document b joins tabs m s =
     (not (joins && m.quoted) || not (is_split_text (text_of b s))) && (not tabs || m.strip || not (has_tabbed_line true (text_of b s)))

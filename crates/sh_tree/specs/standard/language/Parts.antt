@@ -11,18 +11,18 @@ use Rattle.sh_tree.specs.declared.tree.Part.{Part, Escaped, Single, Double', Par
 use Rattle.sh_tree.specs.standard.language.HereDocuments.{is_split_text}
 use Rattle.sh_tree.specs.standard.Tree.{text_of}
 
--- quoting
+-- quoting, in the word of a here-document (XCU 2.7.4)
 unfoldable pub is_quotation : Part → Bool
 is_quotation (Escaped s) = true
 is_quotation (Single style s) = true
 is_quotation (Double' s shape row) = true
 is_quotation _ = false
 
--- a part of the word is quoted
+-- a part of the word is quoted: then its here-document is not expanded (XCU 2.7.4)
 unfoldable pub is_quoted_word : Word → Bool
 is_quoted_word w = list_any is_quotation w.parts
 
--- the single quotes in a part, except for those in the commands of a substitution
+-- the single quotes in a part (XCU 2.2.2), except for those in the commands of a substitution
 unfoldable mutual
   pub singles_in : Part → List Span
   singles_in (Single style s) = s ∷ []
@@ -62,7 +62,7 @@ unfoldable pub singles : List Part → List Span
 singles [] = []
 singles (p ∷ ps) = singles_in p ++ singles ps
 
--- A here-document's lines are joined before its commands are read, but a reader of quotes keeps
--- them. So no single quotes in such a body hold a continuation.
+-- A here-document's lines are joined before its commands are read (XCU 2.7.4), and a reader of
+-- quotes keeps them. Shells differ, so no single quotes in such a body hold a continuation.
 unfoldable pub keeps_lines : List ℕ → Bool → List Part → Bool
 keeps_lines b joins ps = not joins || list_all (λ s. not (is_split_text (text_of b s))) (singles ps)

@@ -1,6 +1,6 @@
 -- Which bytes are which tree: a case for each production. A refused form has none.
--- POSIX.1-2024, XCU 2.2 (quoting), 2.6 (word expansions), 2.7 (redirection), 2.9 (commands), 2.10
--- (shell grammar).
+-- POSIX.1-2024, XCU 2.2 (quoting), 2.4 (reserved words), 2.6 (word expansions), 2.7 (redirection),
+-- 2.9 (commands), 2.10 (shell grammar).
 use Rattle.std.specs.Prelude.{◌≡◌, ◌<◌, ◌≤◌, ℕ, ◌+◌, ◌-◌, Bool, true, false, not, ◌||◌, ◌&&◌, if◌then◌else◌, ◌==◌, List, [], ◌∷◌, length, take, codes, slice_index, Option, Some, None}
 use Rattle.std.specs.List.{list_any}
 use Rattle.sh_tree.specs.declared.limits.TheConstants.{MAX_COMMANDS, MAX_NESTING}
@@ -59,7 +59,7 @@ use Rattle.sh_tree.specs.standard.language.States.{Spot, to, deeper, behind, Doc
 use Rattle.sh_tree.specs.standard.language.Trees as tree
 use Rattle.sh_tree.specs.standard.language.Trees.{span}
 
--- Places
+-- Places: where a reader comes to, over a token
 
 module _ (b : List ℕ) where
   abbrev pub sign_at : Context → ℕ → Spot → Sign
@@ -102,11 +102,11 @@ module _ (b : List ℕ) where
   abbrev pub behind_name : State → State
   behind_name s = next b (name_end b s.spot.at) s
 
-  -- where the newlines after a separator begin: a newline is one of them
+  -- where the newlines after a separator begin: a newline is one of them (XCU 2.10.2)
   abbrev pub parted : State → State
   parted s = if is_newline_lead (lead_here s) then s else behind_token (codes ";") s
 
-  -- after the parenthesis with which a clause may begin
+  -- after the parenthesis with which a clause may begin (XCU 2.9.4.3)
   abbrev pub unopened : State → State
   unopened s = if is_open (lead_of (Named false) s) then behind_token (codes "(") s else s
 
@@ -115,6 +115,8 @@ module _ (b : List ℕ) where
   stage_behind (Named d) i = Named d
   stage_behind g i = Named (declares b i)
 
+-- a redirection at the front leaves a command without its name: a word after it is not reserved
+-- (XCU 2.4)
 abbrev pub redirected : Stage → Stage
 redirected First = Prefixed
 redirected g = g
@@ -123,7 +125,7 @@ unfoldable pub is_empty : {A : Type 0} → List A → Bool
 is_empty [] = true
 is_empty (x ∷ xs) = false
 
--- an expansion
+-- an expansion (XCU 2.6)
 abbrev pub is_expansion : Sign → Bool
 is_expansion (sign.Value p) = true
 is_expansion (sign.Length p) = true
@@ -145,12 +147,13 @@ unfoldable pub is_some : {A : Type 0} → Option A → Bool
 is_some (Some a) = true
 is_some None = false
 
--- a name and an operator that assigns
+-- a name and an operator that assigns (XCU 2.6.4)
 abbrev pub assigns : List ℕ → Spot → Bool
 assigns b s = is_figure_name (figure_at b s) && is_some (assignment_of (figure_at b (over b s)))
 
--- The comment of each constructor is its production. WORD, NAME, NEWLINE and the like are tokens.
--- LB is any number of newlines. [x] is x or nothing, and {x} is any number of x.
+-- The comment of each constructor is its production, and the section if it has one of its own.
+-- WORD, NAME, NEWLINE and the like are tokens (XCU 2.10.2). LB is any number of newlines. [x] is x
+-- or nothing, and {x} is any number of x.
 -- limit: how deep things may nest
 module _ (limit : ℕ) where
   mutual
@@ -162,7 +165,7 @@ module _ (limit : ℕ) where
       stop : {b : List ℕ} {x : Context} {prior : ℕ} {s : Spot}
           → sign_at b x prior s ≡ sign.Stop
           → ReadsParts b x prior s (to (after b x prior s) s) []
-      -- TABS {part}, if `<<-` strips them
+      -- TABS {part}, if `<<-` strips them (XCU 2.7.4)
       tabs : {b : List ℕ} {x : Context} {prior : ℕ} {s u : Spot} {ps : List Part}
           → sign_at b x prior s ≡ sign.Tabs → ReadsParts b x 0 (to (after b x prior s) s) u ps
           → ReadsParts b x prior s u ps
@@ -173,45 +176,45 @@ module _ (limit : ℕ) where
 
     -- the part from s to u, whose sign ends at e
     pub data ReadsPart : List ℕ → Context → Sign → Spot → ℕ → Spot → Part → Type 0 where
-      -- literal bytes
+      -- literal bytes (XCU 2.2)
       plain : {b : List ℕ} {x : Context} {s : Spot} {e : ℕ}
           → ReadsPart b x sign.Plain s e (to e s) (part.Plain (span s.at e))
-      -- a backslash and a byte
+      -- a backslash and a byte (XCU 2.2.1)
       escaped : {b : List ℕ} {x : Context} {s : Spot} {e : ℕ}
           → ReadsPart b x sign.Escaped s e (to e s) (part.Escaped (span s.at e))
-      -- a backslash and a newline
+      -- a backslash and a newline (XCU 2.2.1)
       joined : {b : List ℕ} {x : Context} {s : Spot} {e : ℕ}
           → ReadsPart b x sign.Joined s e (to e s) (part.Joined (span s.at e))
-      -- 'bytes' or $'bytes'
+      -- 'bytes' or $'bytes' (XCU 2.2.2, 2.2.4)
       single_quoted : {b : List ℕ} {x : Context} {s : Spot} {e : ℕ} {style : SingleStyle}
           → ReadsPart b x (sign.Single style) s e (to e s) (part.Single style (span s.at e))
-      -- ~ or ~login
+      -- ~ or ~login (XCU 2.6.1)
       tilde : {b : List ℕ} {x : Context} {s : Spot} {e : ℕ}
           → ReadsPart b x sign.Tilde s e (to e s) (part.Tilde (span s.at e))
-      -- " {part} "
+      -- " {part} " (XCU 2.2.3)
       double_quoted : {b : List ℕ} {x : Context} {s u : Spot} {e : ℕ} {ps : List Part}
           → ReadsParts b (in_double x) 0 (to e s) u ps
           → ReadsPart b x sign.Double s e (behind u.at u s) (part.Double (span s.at u.at) ps)
-      -- $p or ${p}
+      -- $p or ${p} (XCU 2.6.2)
       value : {b : List ℕ} {x : Context} {s : Spot} {e : ℕ} {p : Subject}
           → ReadsPart b x (sign.Value p) s e (to e s) (tree.param s.at e p operator.Value)
-      -- ${#p}
+      -- ${#p} (XCU 2.6.2)
       length_value : {b : List ℕ} {x : Context} {s : Spot} {e : ℕ} {p : Subject}
           → ReadsPart b x (sign.Length p) s e (to e s) (tree.param s.at e p operator.Length)
-      -- ${p-w} ${p=w} ${p?w} ${p+w}, or with a colon before the sign
+      -- ${p-w} ${p=w} ${p?w} ${p+w}, or with a colon before the sign (XCU 2.6.2)
       use_word : {b : List ℕ} {x : Context} {s u : Spot} {e : ℕ} {p : Subject} {a : Action} {colon : Bool} {ps : List Part}
           → s.depth < limit → ReadsParts b (in_use x a e) 0 (deeper e s) u ps
           → ReadsPart b x (sign.Use p a colon) s e (behind u.at u s) (tree.param s.at u.at p (operator.Use a colon (tree.word e (u.at - 1) ps)))
-      -- ${p%w} ${p%%w} ${p#w} ${p##w}
+      -- ${p%w} ${p%%w} ${p#w} ${p##w} (XCU 2.6.2)
       removal : {b : List ℕ} {x : Context} {s u : Spot} {e : ℕ} {p : Subject} {r : Removal} {ps : List Part}
           → s.depth < limit → ReadsParts b (in_removal x e) 0 (deeper e s) u ps
           → ReadsPart b x (sign.Remove p r) s e (behind u.at u s) (tree.param s.at u.at p (operator.Remove r (tree.word e (u.at - 1) ps)))
-      -- $(( expression ))
+      -- $(( expression )) (XCU 2.6.4)
       arithmetic : {b : List ℕ} {x : Context} {s u : Spot} {e : ℕ} {a : Expr}
           → s.depth < limit → ReadsExpression b (in_arithmetic x) (deeper e s) u a → figure_at b u ≡ figure.Close
           → is_closed b (over b u).at ≡ true
           → ReadsPart b x sign.Arith s e (behind ((over b u).at + 1) u s) (part.Arith (span s.at ((over b u).at + 1)) a)
-      -- $( script ), or ` script ` in a text that ends with its closing backquote
+      -- $( script ), or ` script ` in a text that ends with its closing backquote (XCU 2.6.3)
       substitution : {b : List ℕ} {x : Context} {s u : Spot} {e : ℕ} {style : CommandStyle} {t : Script}
           → s.depth < limit → keeps_backslashes style (is_quoted x.site) b e ≡ true
           → ReadsScript (commands_text style b e) (deeper (blanks s.joins (commands_text style b e) e) s) u t → closes style (commands_text style b e) u.at ≡ true
@@ -230,6 +233,7 @@ module _ (limit : ℕ) where
           → assigns b s ≡ false → ReadsConditional b x s u e
           → ReadsExpression b x s u e
 
+    -- a conditional expression, or another one without an assignment (XCU 2.6.4)
     pub data ReadsConditional : List ℕ → Context → Spot → Spot → Expr → Type 0 where
       -- level 0
       one_level : {b : List ℕ} {x : Context} {s u : Spot} {e : Expr}
@@ -241,7 +245,7 @@ module _ (limit : ℕ) where
           → ReadsExpression b x (deeper (over b u).at u) v y → figure_at b v ≡ figure.Colon → ReadsConditional b x (over b v) w n
           → ReadsConditional b x s (behind w.at w u) (expr.Choice c y n)
 
-    -- an expression of binary operators of level l or tighter
+    -- an expression of binary operators of level l or tighter (XCU 2.6.4)
     pub data ReadsLevel : List ℕ → Context → ℕ → Spot → Spot → Expr → Type 0 where
       -- level l+1 {OPERATOR level l+1}, the operators of level l
       chain : {b : List ℕ} {x : Context} {l : ℕ} {s u v : Spot} {e : Expr} {es : List (Binary × Expr)}
@@ -252,7 +256,7 @@ module _ (limit : ℕ) where
           → l ≡ unary_level → figure_at b s ≡ g → ReadsUnary b x g s u e
           → ReadsLevel b x l s u e
 
-    -- the operators of level l that follow, with their operands
+    -- the operators of level l that follow, with their operands (XCU 2.6.4)
     pub data ReadsOperands : List ℕ → Context → ℕ → Spot → Spot → List (Binary × Expr) → Type 0 where
       -- nothing
       no_operand : {b : List ℕ} {x : Context} {l : ℕ} {s : Spot}
@@ -263,7 +267,7 @@ module _ (limit : ℕ) where
           → binary_of l (figure_at b s) ≡ Some o → ReadsLevel b x (l + 1) (over b s) u e → ReadsOperands b x l u v es
           → ReadsOperands b x l s v ((o, e) ∷ es)
 
-    -- a unary expression, which begins with the figure
+    -- a unary expression, which begins with the figure (XCU 2.6.4)
     pub data ReadsUnary : List ℕ → Context → Figure → Spot → Spot → Expr → Type 0 where
       -- CONSTANT
       constant : {b : List ℕ} {x : Context} {s : Spot}
@@ -279,13 +283,14 @@ module _ (limit : ℕ) where
       parenthesis : {b : List ℕ} {x : Context} {s u : Spot} {e : Expr}
           → s.depth < limit → ReadsExpression b x (deeper (over b s).at s) u e → figure_at b u ≡ figure.Close
           → ReadsUnary b x figure.Open s (behind (over b u).at u s) (expr.Parenthesis e)
-      -- an expansion, which begins with `$`
+      -- an expansion, which begins with `$` (XCU 2.6.4)
       expansion : {b : List ℕ} {x : Context} {s u : Spot} {g : Sign} {p : Part}
           → sign_at b x 0 (to (lexeme b s.at).start s) ≡ g → is_expansion g ≡ true
           → ReadsPart b x g (to (lexeme b s.at).start s) (after b x 0 (to (lexeme b s.at).start s)) u p
           → ReadsUnary b x figure.Dollar s u (expr.Expansion p)
 
-    -- A whole word. The value of an assignment is the end of a token that begins with a name.
+    -- A whole word (XCU 2.10.1). The value of an assignment is the end of a token that begins with
+    -- a name.
     pub data ReadsWord : List ℕ → Context → Spot → Spot → Word → Type 0 where
       -- {part}
       whole_word : {b : List ℕ} {x : Context} {s u : Spot} {ps : List Part}
@@ -302,7 +307,7 @@ module _ (limit : ℕ) where
           → is_word (lead_of b (Named false) (next b r.end s)) ≡ true
           → ReadsWord b (in_unsplit (next b r.end s).spot.at) (facing (next b r.end s)) u w
           → ReadsRedirect b body s (past b u s) (tree.redirect r.at r.number (File d w))
-      -- [IO_NUMBER] (<< | <<-) WORD
+      -- [IO_NUMBER] (<< | <<-) WORD (XCU 2.7.4)
       here_document : {b : List ℕ} {body : ℕ → Document} {s : State} {u : Spot} {r : Redirection} {strip : Bool} {w : Word}
           → redirection b s.spot.at ≡ Some r → strip_of r.operator ≡ Some strip
           → is_word (lead_of b (Named false) (next b r.end s)) ≡ true
@@ -320,7 +325,7 @@ module _ (limit : ℕ) where
           → is_redirection (lead_of b (Named false) s) ≡ true → ReadsRedirect b body s u r → ReadsRedirects b body u v rs
           → ReadsRedirects b body s v (r ∷ rs)
 
-    -- the bodies of the here-documents, one after the other
+    -- the bodies of the here-documents, one after the other (XCU 2.7.4)
     pub data ReadsDocuments : List ℕ → List Mark → State → State → Type 0 where
       -- nothing
       no_body : {b : List ℕ} {s : State} → ReadsDocuments b [] s s
@@ -332,7 +337,8 @@ module _ (limit : ℕ) where
           → ReadsDocuments b ms (with_document (behind_line b l.end) (record { text = tree.word s.spot.at l.start ps; end = l }) u s) v
           → ReadsDocuments b (m ∷ ms) s v
 
-    -- any number of newline tokens, each with the bodies of the here-documents before it
+    -- any number of newline tokens (XCU 2.10.2), each with the bodies of the here-documents before
+    -- it (XCU 2.7.4)
     pub data ReadsBreaks : List ℕ → State → State → Type 0 where
       -- nothing
       no_break : {b : List ℕ} {s : State} → is_newline_lead (lead_here b s) ≡ false → ReadsBreaks b s s
@@ -355,7 +361,7 @@ module _ (limit : ℕ) where
           → ReadsWord b (in_value (name_end b s.spot.at + 1)) (to (name_end b s.spot.at + 1) (facing s)) u w
           → ReadsElements b body Prefixed (past b u s) v es
           → ReadsElements b body g s v (element.Assignment (span s.spot.at (name_end b s.spot.at)) w ∷ es)
-      -- WORD {element}
+      -- WORD {element}: the command name or an operand
       word_element : {b : List ℕ} {body : ℕ → Document} {g : Stage} {s v : State} {u : Spot} {w : Word} {es : List Element}
           → lead_of b g s ≡ lead.Word → ReadsWord b (in_stage b g s.spot.at) (facing s) u w
           → ReadsElements b body (stage_behind b g s.spot.at) (past b u s) v es
@@ -377,7 +383,7 @@ module _ (limit : ℕ) where
       compound_command : {b : List ℕ} {body : ℕ → Document} {s u v : State} {l : Lead} {k : Kind} {rs : List Redirect}
           → lead_here b s ≡ l → ReadsCompound b body l (begun s) u k → ReadsRedirects b body u v rs
           → ReadsCommand b body s (closing (is_empty rs) v) (tree.command (s.spot.count + 1) s.spot.at k rs)
-      -- NAME ( ) LB compound {redirect}
+      -- NAME ( ) LB compound {redirect} (XCU 2.9.5)
       definition : {b : List ℕ} {body : ℕ → Document} {s u v : State} {c : Command}
           → lead_here b s ≡ lead.Definition → lead_of b (Named false) (behind_name b s) ≡ lead.Operator op.LeftParenthesis
           → lead_of b (Named false) (behind_token b (codes "(") (behind_name b s)) ≡ lead.Operator op.RightParenthesis
@@ -387,35 +393,35 @@ module _ (limit : ℕ) where
 
     -- a compound command that begins with the token (XCU 2.9.4)
     pub data ReadsCompound : List ℕ → (ℕ → Document) → Lead → State → State → Kind → Type 0 where
-      -- { list }
+      -- { list } (XCU 2.9.4.1)
       group : {b : List ℕ} {body : ℕ → Document} {s u : State} {t : Script}
           → s.spot.depth < limit → ReadsList b body (lower (behind_token b (codes "{") s)) u t
           → lead_here b u ≡ lead.Reserved word.RightBrace
           → ReadsCompound b body (lead.Reserved word.LeftBrace) s (as_deep s (behind_token b (codes "}") u)) (kind.Group t)
-      -- ( list )
+      -- ( list ) (XCU 2.9.4.1)
       subshell : {b : List ℕ} {body : ℕ → Document} {s u : State} {t : Script}
           → s.spot.depth < limit → ReadsList b body (lower (behind_token b (codes "(") s)) u t
           → lead_here b u ≡ lead.Operator op.RightParenthesis
           → ReadsCompound b body (lead.Operator op.LeftParenthesis) s (as_deep s (behind_token b (codes ")") u)) (kind.Subshell t)
-      -- if list then list {elif list then list} [else list] fi
+      -- if list then list {elif list then list} [else list] fi (XCU 2.9.4.4)
       cond : {b : List ℕ} {body : ℕ → Document} {s u : State} {bs : List Branch} {o : Option Script}
           → s.spot.depth < limit → ReadsBranches b body (lower (behind_token b (codes "if") s)) u bs o
           → ReadsCompound b body (lead.Reserved word.If) s (as_deep s u) (kind.Cond bs o)
-      -- while list do list done
+      -- while list do list done (XCU 2.9.4.5)
       while_loop : {b : List ℕ} {body : ℕ → Document} {s u v : State} {c t : Script}
           → s.spot.depth < limit → ReadsList b body (lower (behind_token b (codes "while") s)) u c → ReadsDo b body u v t
           → ReadsCompound b body (lead.Reserved word.While) s (as_deep s v) (kind.Loop loop.While c t)
-      -- until list do list done
+      -- until list do list done (XCU 2.9.4.6)
       until_loop : {b : List ℕ} {body : ℕ → Document} {s u v : State} {c t : Script}
           → s.spot.depth < limit → ReadsList b body (lower (behind_token b (codes "until") s)) u c → ReadsDo b body u v t
           → ReadsCompound b body (lead.Reserved word.Until) s (as_deep s v) (kind.Loop loop.Until c t)
-      -- for NAME [; LB | LB in {WORD} (; | NEWLINE) LB | LB] do list done
+      -- for NAME [; LB | LB in {WORD} (; | NEWLINE) LB | LB] do list done (XCU 2.9.4.2)
       for_loop : {b : List ℕ} {body : ℕ → Document} {s u v : State} {o : Option (List Word)} {t : Script}
           → s.spot.depth < limit → is_bare_name b (behind_token b (codes "for") s).spot.at ≡ true
           → ReadsForWords b (behind_name b (lower (behind_token b (codes "for") s))) u o → ReadsDo b body u v t
           → ReadsCompound b body (lead.Reserved word.For) s (as_deep s v) (kind.For
           (span (behind_token b (codes "for") s).spot.at (name_end b (behind_token b (codes "for") s).spot.at)) o t)
-      -- case WORD LB in LB {clause} esac
+      -- case WORD LB in LB {clause} esac (XCU 2.9.4.3)
       case_of : {b : List ℕ} {body : ℕ → Document} {s p q v : State} {u : Spot} {w : Word} {cs : List Clause}
           → s.spot.depth < limit → is_word (lead_of b (Named false) (behind_token b (codes "case") s)) ≡ true
           → ReadsWord b (in_unsplit (behind_token b (codes "case") s).spot.at) (facing (lower (behind_token b (codes "case") s))) u w
@@ -423,7 +429,7 @@ module _ (limit : ℕ) where
           → ReadsBreaks b (behind_token b (codes "in") p) q → ReadsClauses b body q v cs
           → ReadsCompound b body (lead.Reserved word.Case) s (as_deep s v) (kind.Branches w cs)
 
-    -- `do`, a list and `done`
+    -- `do`, a list and `done` (XCU 2.9.4.2, 2.9.4.5, 2.9.4.6)
     pub data ReadsDo : List ℕ → (ℕ → Document) → State → State → Script → Type 0 where
       -- do list done
       do_group : {b : List ℕ} {body : ℕ → Document} {s u : State} {t : Script}
@@ -431,7 +437,7 @@ module _ (limit : ℕ) where
           → lead_here b u ≡ lead.Reserved word.Done
           → ReadsDo b body s (behind_token b (codes "done") u) t
 
-    -- a condition, `then`, a list, and what follows up to `fi`
+    -- a condition, `then`, a list, and what follows up to `fi` (XCU 2.9.4.4)
     pub data ReadsBranches : List ℕ → (ℕ → Document) → State → State → List Branch → Option Script → Type 0 where
       -- list then list {elif list then list} [else list] fi
       branch : {b : List ℕ} {body : ℕ → Document} {s u v w : State} {c t : Script} {bs : List Branch} {o : Option Script}
@@ -439,6 +445,7 @@ module _ (limit : ℕ) where
           → ReadsList b body (behind_token b (codes "then") u) v t → ReadsElse b body v w bs o
           → ReadsBranches b body s w (tree.branch c t ∷ bs) o
 
+    -- what follows a list of `if` up to `fi` (XCU 2.9.4.4)
     pub data ReadsElse : List ℕ → (ℕ → Document) → State → State → List Branch → Option Script → Type 0 where
       -- fi
       fi : {b : List ℕ} {body : ℕ → Document} {s : State}
@@ -454,7 +461,7 @@ module _ (limit : ℕ) where
           → lead_here b s ≡ lead.Reserved word.Elif → ReadsBranches b body (behind_token b (codes "elif") s) u bs o
           → ReadsElse b body s u bs o
 
-    -- what is between the name of `for` and its `do`
+    -- what is between the name of `for` and its `do` (XCU 2.9.4.2)
     pub data ReadsForWords : List ℕ → State → State → Option (List Word) → Type 0 where
       -- ; LB
       arguments_ended : {b : List ℕ} {s u : State}
@@ -470,6 +477,7 @@ module _ (limit : ℕ) where
           → separator (lead_here b v) ≡ Some false → ReadsBreaks b (parted b v) w
           → ReadsForWords b s w (Some ws)
 
+    -- the words of `for` (XCU 2.9.4.2)
     pub data ReadsWords : List ℕ → State → State → List Word → Type 0 where
       -- nothing
       no_word : {b : List ℕ} {s : State} → is_word (lead_of b (Named false) s) ≡ false → ReadsWords b s s []
@@ -479,7 +487,7 @@ module _ (limit : ℕ) where
           → ReadsWords b (past b u s) v ws
           → ReadsWords b s v (w ∷ ws)
 
-    -- the clauses of `case`, and `esac`
+    -- the clauses of `case`, and `esac` (XCU 2.9.4.3)
     pub data ReadsClauses : List ℕ → (ℕ → Document) → State → State → List Clause → Type 0 where
       -- esac
       esac : {b : List ℕ} {body : ℕ → Document} {s : State}
@@ -497,7 +505,7 @@ module _ (limit : ℕ) where
           → ReadsBreaks b (behind_token b (codes ";;") v) w → ReadsClauses b body w z cs
           → ReadsClauses b body s z (tree.clause ws t e ∷ cs)
 
-    -- patterns between bars, up to `)`
+    -- patterns between bars, up to `)` (XCU 2.9.4.3)
     pub data ReadsPatterns : List ℕ → State → State → List Word → Type 0 where
       -- WORD, before )
       last_pattern : {b : List ℕ} {s : State} {u : Spot} {w : Word}
@@ -513,6 +521,7 @@ module _ (limit : ℕ) where
 
     -- Pipelines and lists (XCU 2.9.2, 2.9.3)
 
+    -- a pipeline (XCU 2.9.2)
     pub data ReadsPipeline : List ℕ → (ℕ → Document) → State → State → Pipe → Type 0 where
       -- ! command {| LB command}
       negated : {b : List ℕ} {body : ℕ → Document} {s u : State} {cs : List Command}
@@ -523,6 +532,7 @@ module _ (limit : ℕ) where
           → begins_command (lead_here b s) ≡ true → ReadsCommands b body s u cs
           → ReadsPipeline b body s u (tree.pipe false cs)
 
+    -- the commands of a pipeline (XCU 2.9.2)
     pub data ReadsCommands : List ℕ → (ℕ → Document) → State → State → List Command → Type 0 where
       -- command
       last_command : {b : List ℕ} {body : ℕ → Document} {s u : State} {c : Command}
@@ -534,12 +544,14 @@ module _ (limit : ℕ) where
           → ReadsCommands b body v w cs
           → ReadsCommands b body s w (c ∷ cs)
 
+    -- an and-or list (XCU 2.9.3)
     pub data ReadsAndOr : List ℕ → (ℕ → Document) → State → State → AndOr → Type 0 where
       -- pipeline {(&& | ||) LB pipeline}
       linked : {b : List ℕ} {body : ℕ → Document} {s u v : State} {p : Pipe} {ps : List (Link × Pipe)}
           → ReadsPipeline b body s u p → ReadsLinks b body u v ps
           → ReadsAndOr b body s v (tree.and_or p ps)
 
+    -- the further pipelines of an and-or list (XCU 2.9.3)
     pub data ReadsLinks : List ℕ → (ℕ → Document) → State → State → List (Link × Pipe) → Type 0 where
       -- nothing
       no_link : {b : List ℕ} {body : ℕ → Document} {s : State}
@@ -551,8 +563,8 @@ module _ (limit : ℕ) where
           → ReadsLinks b body v w ps
           → ReadsLinks b body s w ((l, p) ∷ ps)
 
-    -- one item or more; a reserved word can follow the last one without a separator only where it
-    -- may close something
+    -- one item or more (XCU 2.9.3); a reserved word can follow the last one without a separator
+    -- only where it may close something (XCU 2.4)
     pub data ReadsItems : List ℕ → (ℕ → Document) → State → State → List Item → Type 0 where
       -- and_or
       last_item : {b : List ℕ} {body : ℕ → Document} {s u : State} {l : AndOr}
@@ -569,13 +581,14 @@ module _ (limit : ℕ) where
           → begins_pipeline (lead_here b v) ≡ true → ReadsItems b body v w is
           → ReadsItems b body s w (tree.item l g ∷ is)
 
+    -- a compound list (XCU 2.9.3, 2.10.2)
     pub data ReadsList : List ℕ → (ℕ → Document) → State → State → Script → Type 0 where
       -- LB and_or {(; | & | NEWLINE) LB and_or} [(; | & | NEWLINE) LB]
       list : {b : List ℕ} {body : ℕ → Document} {s u v : State} {is : List Item}
           → ReadsBreaks b s u → begins_pipeline (lead_here b u) ≡ true → ReadsItems b body u v is
           → ReadsList b body s v (tree.script is)
 
-    -- a list, or newlines alone
+    -- a list, or newlines alone (XCU 2.10.2)
     pub data ReadsSequence : List ℕ → (ℕ → Document) → State → State → Script → Type 0 where
       -- LB
       nothing : {b : List ℕ} {body : ℕ → Document} {s u : State}
@@ -586,14 +599,14 @@ module _ (limit : ℕ) where
           → ReadsList b body s u t
           → ReadsSequence b body s u t
 
-    -- a sequence with all its here-documents: the n-th operator has the n-th body
+    -- a sequence with all its here-documents (XCU 2.7.4): the n-th operator has the n-th body
     pub data ReadsScript : List ℕ → Spot → Spot → Script → Type 0 where
       -- [list | LB], and the body of each of its here-documents
       script : {b : List ℕ} {s : Spot} {u : State} {t : Script}
           → ReadsSequence b (nth u.bodies) (within s) u t → waits u.pending ≡ false
           → ReadsScript b s u.spot t
 
--- no byte of the text is NUL
+-- no byte of the text is NUL: no text file has one
 abbrev pub HasNoNul : List ℕ → Type 0
 HasNoNul b = list_any (λ c. c == 0) b ≡ false
 
@@ -601,7 +614,8 @@ HasNoNul b = list_any (λ c. c == 0) b ≡ false
 abbrev pub start : List ℕ → Spot
 start b = record { at = blanks false b 0; count = 0; depth = 0; quiet = false; joins = false; tabs = false }
 
--- The whole text is the script, which has so many commands and nests no deeper than the limit.
+-- The whole text is the script (XCU 2.10.2), which has so many commands and nests no deeper than
+-- the limit.
 pub record ReadsTo (b : List ℕ) (limit count : ℕ) (t : Script) : Type 0 where
   pub no_nul : HasNoNul b
   pub end : Spot

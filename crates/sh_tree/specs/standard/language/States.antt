@@ -1,5 +1,6 @@
 -- Where a reader of commands is: the place, what came before it, and what is open around it.
--- POSIX.1-2024, XCU 2.3 (token recognition), 2.7.4 (here-documents), 2.10 (shell grammar).
+-- POSIX.1-2024, XCU 2.3 (token recognition), 2.4 (reserved words), 2.7.4 (here-documents), 2.10
+-- (shell grammar).
 --
 -- The words of movement. Among the bytes of a word they lead from spot to spot. `to i` is the same
 -- spot at the offset i. `deeper i` is there one level deeper. `behind i u` is at i as deep as
@@ -19,9 +20,9 @@ use Rattle.sh_tree.specs.standard.language.Commands.{blanks}
 use Rattle.sh_tree.specs.standard.language.Trees.{word, span}
 
 -- Inside a word: the offset, how many commands began before it, and how many levels are open.
--- `quiet`: a here-document outside waits for its body, so that no newline token may come. `joins`:
--- this is in the body of a here-document whose lines are joined. `tabs`: `<<-` strips the tabs at
--- the beginning of lines around it.
+-- `quiet`: a here-document outside waits for its body, so that no newline token may come
+-- (XCU 2.7.4). `joins`: this is in the body of a here-document whose lines are joined. `tabs`:
+-- `<<-` strips the tabs at the beginning of lines around it.
 pub record Spot : Type 0 where
   pub at : ℕ
   pub count : ℕ
@@ -42,7 +43,7 @@ deeper i s = record s { at = i; depth = s.depth + 1 }
 abbrev pub behind : ℕ → Spot → Spot → Spot
 behind i u s = record s { at = i; count = u.count }
 
--- a here-document's body, and the line that ends it
+-- a here-document's body, and the line that ends it (XCU 2.7.4)
 pub record Document : Type 0 where
   pub text : Word
   pub end : Span
@@ -60,6 +61,7 @@ pub record State : Type 0 where
 abbrev pub no_document : Document
 no_document = record { text = word 0 0 []; end = span 0 0 }
 
+-- the n-th here-document
 unfoldable pub nth : List Document → ℕ → Document
 nth [] n = no_document
 nth (d ∷ ds) zero = d
@@ -69,6 +71,7 @@ nth (d ∷ ds) (suc n) = nth ds n
 abbrev pub document_count : State → ℕ
 document_count s = length s.bodies + length s.pending
 
+-- a here-document waits for its body
 unfoldable pub waits : List Mark → Bool
 waits [] = false
 waits (m ∷ ms) = true
@@ -77,7 +80,7 @@ waits (m ∷ ms) = true
 abbrev pub facing : State → Spot
 facing s = record s.spot { quiet = s.spot.quiet || waits s.pending }
 
--- in a substitution: its here-documents are its own
+-- in a substitution: its here-documents are its own (XCU 2.7.4)
 abbrev pub within : Spot → State
 within s = record { spot = s; closed = false; pending = []; bodies = [] }
 
@@ -101,15 +104,15 @@ lower s = record s { spot = record s.spot { depth = s.spot.depth + 1 } }
 abbrev pub as_deep : State → State → State
 as_deep r s = record s { spot = record s.spot { depth = r.spot.depth } }
 
--- after a command
+-- after a command: whether a closing word is recognized there (XCU 2.4)
 abbrev pub closing : Bool → State → State
 closing closed s = record s { closed = closed }
 
--- after a here-document's operator and delimiter
+-- after a here-document's operator and delimiter (XCU 2.7.4)
 abbrev pub with_mark : Mark → State → State
 with_mark m s = record s { pending = s.pending ++ m ∷ [] }
 
--- after a newline, at i
+-- after a newline, at i: the bodies of the here-documents before it come now (XCU 2.7.4)
 abbrev pub on_line : ℕ → State → State
 on_line i s = record s { spot = to i s.spot; pending = [] }
 

@@ -10,27 +10,28 @@ use Rattle.sh_tree.specs.standard.language.Bytes.{is_in, is_backslash, is_first,
 abbrev pub no_backquote : ℕ → Bool
 no_backquote c = not (c == byte.backquote)
 
--- where the first backquote at or after e ends
+-- where the first backquote at or after e ends (XCU 2.6.3)
 abbrev pub backquote_end : List ℕ → ℕ → ℕ
 backquote_end b e = e + run no_backquote (drop e b) + 1
 
--- Commands between backquotes are read in the text up to the closing backquote, and with it: the
--- first one after the opening one.
+-- The text that the commands of a substitution are read in (XCU 2.6.3). Between backquotes it goes
+-- up to the closing one, with it. That is the first after the opening one.
 unfoldable pub commands_text : CommandStyle → List ℕ → ℕ → List ℕ
 commands_text Paren b e = b
 commands_text Backquote b e = take (backquote_end b e) b
 
--- what closes them is at i
+-- what closes the commands is at i (XCU 2.6.3)
 unfoldable pub closes : CommandStyle → List ℕ → ℕ → Bool
 closes Paren b i = is_closed b i
 closes Backquote b i = is_last_backquote (drop i b)
 
--- a backslash that goes before the commands are read: before `$` or a backslash, and in double
--- quotes before any byte
+-- A backslash that is removed before the commands are read (XCU 2.6.3): before `$`, a backquote or
+-- a backslash. In double quotes it is any, as in shells.
 unfoldable pub has_kept_backslash : Bool → List ℕ → Bool
 has_kept_backslash quoted [] = false
 has_kept_backslash quoted (c ∷ cs) = (is_backslash c && (quoted || is_first (is_in (codes "$`\\")) cs)) || has_kept_backslash quoted cs
 
+-- the commands from e on have no such backslash: others are refused
 unfoldable pub keeps_backslashes : CommandStyle → Bool → List ℕ → ℕ → Bool
 keeps_backslashes Paren quoted b e = true
 keeps_backslashes Backquote quoted b e = not (has_kept_backslash quoted (drop e (commands_text Backquote b e)))

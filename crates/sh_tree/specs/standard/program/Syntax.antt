@@ -1,6 +1,7 @@
 -- The program that a script is: its commands and words, with an offset where something may be
 -- reported of one.
--- POSIX.1-2024, XCU 2.6 (word expansions), 2.7 (redirection), 2.9 (shell commands).
+-- POSIX.1-2024, XCU 2.2 (quoting), 2.5 (parameters), 2.6 (word expansions), 2.7 (redirection), 2.9
+-- (shell commands).
 use Rattle.std.specs.Prelude.{ℕ, Bool, List, Option}
 use Rattle.sh_tree.specs.declared.tree.Action.{Action}
 use Rattle.sh_tree.specs.declared.tree.Binary.{Binary}
@@ -38,7 +39,7 @@ mutual
     Expansion : (at : ℕ) (parameter : Parameter) (operator : Operator) → Part
     Arithmetic : (at : ℕ) (expression : Expression) → Part
     Substitution : (at : ℕ) (list : Items) → Part
-    -- a tilde, and the login name after it
+    -- a tilde, and the login name after it (XCU 2.6.1)
     Tilde : (at : ℕ) (login : Text) → Part
     -- a line continuation
     Joined : Part
@@ -66,7 +67,7 @@ mutual
     Choice : (condition then_one else_one : Expression) → Expression
     Assigned : (at : ℕ) (name : Text) (operator : Option Binary) (value : Expression) → Expression
 
-  -- operators of one level, each with the operand after it
+  -- operators of one level, each with the operand after it (XCU 2.6.4)
   pub data Operands : Type 0 where
     no_operands : Operands
     more_operands : (operator : Binary) (operand : Expression) → Operands → Operands
@@ -76,7 +77,7 @@ mutual
     no_items : Items
     more_items : (list : AndOr) (background : Bool) → Items → Items
 
-  -- an and-or list
+  -- an and-or list (XCU 2.9.3)
   pub data AndOr : Type 0 where
     and_or : (first : Pipeline) (rest : Links) → AndOr
 
@@ -89,12 +90,13 @@ mutual
   pub data Pipeline : Type 0 where
     pipeline : (negated : Bool) (parts : Commands) → Pipeline
 
+  -- the commands of a pipeline
   pub data Commands : Type 0 where
     no_commands : Commands
     more_commands : Command → Commands → Commands
 
-  -- a command, its number from 1 in the order of starts, and the redirections after a compound
-  -- command
+  -- a command (XCU 2.9), its number from 1 in the order of starts, and the redirections after a
+  -- compound command
   pub data Command : Type 0 where
     command : (number at : ℕ) (kind : Kind) (redirects : Redirects) → Command
 
@@ -109,7 +111,7 @@ mutual
     Case : (word : Word) (clauses : Clauses) → Kind
     Define : (name : Text) (body : Command) → Kind
 
-  -- the elements of a simple command, in the order of the source
+  -- the elements of a simple command, in the order of the source (XCU 2.9.1)
   pub data Elements : Type 0 where
     no_elements : Elements
     assignment : (name : Text) (value : Word) → Elements → Elements
@@ -126,16 +128,17 @@ mutual
     no_redirects : Redirects
     more_redirects : Redirect → Redirects → Redirects
 
-  -- the conditions of `if` and its `elif`s, each with its list
+  -- the conditions of `if` and its `elif`s, each with its list (XCU 2.9.4.4)
   pub data Branches : Type 0 where
     no_branches : Branches
     more_branches : (condition body : Items) → Branches → Branches
 
+  -- the list after `else`, if it is there
   pub data Otherwise : Type 0 where
     no_else : Otherwise
     else_of : (body : Items) → Otherwise
 
-  -- the words of `for`, or all positional parameters if there is no `in`
+  -- the words of `for`, or all positional parameters if there is no `in` (XCU 2.9.4.2)
   pub data ForWords : Type 0 where
     every_parameter : ForWords
     listed : (words : Words) → ForWords
@@ -144,7 +147,7 @@ mutual
     no_words : Words
     more_words : Word → Words → Words
 
-  -- the clauses of `case`
+  -- the clauses of `case`, each with its patterns, its list and how it ends (XCU 2.9.4.3)
   pub data Clauses : Type 0 where
     no_clauses : Clauses
     more_clauses : (patterns : Words) (body : Items) (end : ClauseEnd) → Clauses → Clauses

@@ -1,5 +1,6 @@
 -- The program that a tree means: the script's bytes in place of spans.
--- POSIX.1-2024, XCU 2.2 (quoting), 2.6 (word expansions), 2.10 (shell grammar).
+-- POSIX.1-2024, XCU 2.2 (quoting), 2.5 (parameters), 2.6 (word expansions), 2.7 (redirection), 2.9
+-- (shell commands), 2.10 (shell grammar).
 use Rattle.std.specs.Prelude.{ℕ, List}
 use Rattle.sh_tree.specs.declared.tree.AndOr.{AndOr, AndOr', Row_of-AndOr-rest-2, end_of-AndOr-rest-2, more_of-AndOr-rest-2}
 use Rattle.sh_tree.specs.declared.tree.Branch.{Branch'}
@@ -21,12 +22,14 @@ use Rattle.sh_tree.specs.standard.Tree.{text_of}
 use Rattle.sh_tree.specs.standard.Words.{behind_first, single_text}
 use Rattle.sh_tree.specs.standard.program.Syntax as p
 
+-- a parameter (XCU 2.5)
 unfoldable pub parameter_of : List ℕ → Subject → p.Parameter
 parameter_of b (subject.Name s) = p.Variable (text_of b s)
 parameter_of b (subject.Positional n s) = p.Positional n
 parameter_of b (subject.Special c s) = p.Special c
 
 unfoldable mutual
+  -- Words (XCU 2.2, 2.6): bytes without their quoting
   pub part_of : List ℕ → Part → p.Part
   part_of b (Plain s) = p.Plain (text_of b s)
   part_of b (Escaped s) = p.Escaped (behind_first (text_of b s))
@@ -42,13 +45,14 @@ unfoldable mutual
   word_of b end_of-Part = p.no_parts
   word_of b (more_of-Part x rest) = p.more_parts (part_of b x) (word_of b rest)
 
+  -- what an expansion does with its parameter (XCU 2.6.2)
   pub operator_of : List ℕ → ParameterOperator → p.Operator
   operator_of b Value = p.Value
   operator_of b Length = p.Length
   operator_of b (Use' action colon s shape row) = p.Use action colon (word_of b row)
   operator_of b (Remove' removal s shape row) = p.Remove removal (word_of b row)
 
-  -- the expression in a box
+  -- Arithmetic (XCU 2.6.4): the expression in a box
   pub held_of : {m : _} → List ℕ → Row_of-Expr m → p.Expression
   held_of b end_of-Expr = p.Constant (text_of b (record { start = 0; end = 0 }))
   held_of b (more_of-Expr x rest) = expression_of b x
@@ -67,7 +71,7 @@ unfoldable mutual
   expression_of b (Choice' s condition s' then_one s'' else_one) = p.Choice (held_of b condition) (held_of b then_one) (held_of b else_one)
   expression_of b (Assign' s operator shape x) = p.Assigned s.start (text_of b s) operator (held_of b x)
 
-  -- the program of a script
+  -- Lists and pipelines (XCU 2.9.2, 2.9.3): the program of a script
   pub script_of : List ℕ → Script → p.Items
   script_of b (Script' shape row) = items_of b row
 
@@ -89,6 +93,7 @@ unfoldable mutual
   commands_of b end_of-Command = p.no_commands
   commands_of b (more_of-Command x rest) = p.more_commands (command_of b x) (commands_of b rest)
 
+  -- Commands (XCU 2.9.1, 2.9.4, 2.9.5)
   pub command_of : List ℕ → Command → p.Command
   command_of b (Command' number at kind shape row) = p.command number at (kind_of b kind) (redirects_of b row)
 
@@ -102,17 +107,19 @@ unfoldable mutual
   kind_of b (Branches' s shape word shape' clauses) = p.Case (word_of b word) (clauses_of b clauses)
   kind_of b (Define' name shape row) = p.Define (text_of b name) (body_of b row)
 
-  -- the command in a box
+  -- the command in a box: the body of a function (XCU 2.9.5)
   pub body_of : {m : _} → List ℕ → Row_of-Command m → p.Command
   body_of b end_of-Command = p.command 0 0 (p.Group p.no_items) p.no_redirects
   body_of b (more_of-Command x rest) = command_of b x
 
+  -- the elements of a simple command (XCU 2.9.1)
   pub elements_of : {m : _} → List ℕ → Row_of-Element m → p.Elements
   elements_of b end_of-Element = p.no_elements
   elements_of b (more_of-Element (Assignment' name s shape row) rest) = p.assignment (text_of b name) (word_of b row) (elements_of b rest)
   elements_of b (more_of-Element (Word' s shape row) rest) = p.operand (word_of b row) (elements_of b rest)
   elements_of b (more_of-Element (Redirection' at number target) rest) = p.redirection (target_of b target) (elements_of b rest)
 
+  -- a redirection (XCU 2.7): of a here-document its body alone
   pub target_of : List ℕ → Target → p.Redirect
   target_of b (File' direction s shape row) = p.File (word_of b row)
   target_of b (Here' strip s shape delimiter s' shape' body end) = p.Here (word_of b body)
@@ -121,6 +128,7 @@ unfoldable mutual
   redirects_of b end_of-Redirect = p.no_redirects
   redirects_of b (more_of-Redirect at number target rest) = p.more_redirects (target_of b target) (redirects_of b rest)
 
+  -- the parts of compound commands (XCU 2.9.4)
   pub branches_of : {m : _} → List ℕ → Row_of-Branch m → p.Branches
   branches_of b end_of-Branch = p.no_branches
   branches_of b (more_of-Branch (Branch' condition body) rest) = p.more_branches (script_of b condition) (script_of b body) (branches_of b rest)
