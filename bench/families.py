@@ -165,6 +165,17 @@ def definitions_in_substitutions(size):
     return text_of(f"x=$(f{n}() {{ y=1; }}; f{n}); while a; do f{n}; done" for n in range(count))
 
 
+def calls_late(size):
+    """Functions whose calls are reached once another one returns. Each calls one other, in any order."""
+    count = count_of(size, "f1000() { h; unset v1000; a && f1000; }\nv1000=;b && f1000", 1900)
+    order = list(range(count))
+    random.Random(1).shuffle(order)
+    after = dict(zip(order, order[1:] + order[-1:]))
+    lines = [f"f{n}() {{ h; unset v{n}; a && f{after[n]}; }}" for n in range(count)]
+    names = "".join(f"v{n}=;" for n in range(count))
+    return text_of(["h() { a || ( m ); }", *lines, "m() {", names, *(f"b && f{n}" for n in range(count)), "}", "h"])
+
+
 def losing_recursion(size):
     count = count_of(size, "a && unset v1000", MOST_NAMES - 100)
     return text_of([*(f"v{n}=" for n in range(count // 2)), "f() {", *(f"a && unset v{n}" for n in range(count // 2)), "f; }", "f"])
@@ -487,6 +498,7 @@ LINED = {
     "entries in a loop": of(each("vN=\n", 1900), "f() { :; }\n", each("gN() { f; }\n", 1900), "while a; do\n", each("unset vN\ngN\n", 1900), "done\n"),
     "entries by recursion": of(each("vN=\n", 1900), "f() { a && f; }\n", each("gN() { f; unset vN; }; gN\n", 1900)),
     "entries in conditions": of(each("vN=\n", 1900), "f() { :; }\n", each("gN() { if f; then unset vN; fi; }; gN\n", 1900)),
+    "entries late": of("h() { a || ( m ); }\nf() { a && f; }\n", each("gN() { f; unset vN; }\n", 1900), "m() { h\n", each("vN=\n", 1900), each("gN\n", 1900), "}\nh\n"),
     "entries of long bodies": of(each("vN=\n", 1900), "f() {\n", each('b "$vN"\n', 1900), "}\n", each("gN() { unset vN; f; }; gN\n", 1900)),
     "lost along calls": of(each("fN() { unset vN; fK; }\n", MOST_NAMES // 2), "f0\n"),
     "told in parts of parts": told_within,
@@ -527,6 +539,7 @@ ROUND = {
     "patterns": ("case x in $(while :; do shift\n", "done)) ;; esac\n"),
     "redirected call": ("d() { exit; }\nwhile :; do shift; d >f\n", "done\n"),
     "redirected true": ("while :; do shift; true >f && break\n", "done\n"),
+    "returns": ("f() { while :; do shift; b && return\n", 'done; }\nf "$@"\n'),
     "sums": ("x=$(($(while :; do shift\n", "done)))\n"),
     "unmatched": ("while :; do shift; case $x in a) exit ;; esac\n", "done\n"),
     "unsure call": ("a && d() { exit; }\nwhile :; do shift; d\n", "done\n"),
@@ -547,6 +560,7 @@ FAMILIES = {
     "shift waves": (shift_waves, ALL_PARAMETERS),
     **{f"shift and {name}": (shift_beside(line), ALL_PARAMETERS) for name, line in BESIDE.items()},
     "shift over processes": (of("while :; do shift; ( set --\n", each("a&"), "); done\n"), ALL_PARAMETERS),
+    "shift over both": (of("while :; do shift; ( set --\n", each("a|b;c&"), "); done\n"), ALL_PARAMETERS),
     "shift over pipelines": (of("while :; do shift; ( set --\n", each("a|b;"), "); done\n"), ALL_PARAMETERS),
     "shift by recursion": (of("f() { shift; ( set --\n", each("a&"), '); f "$@"; }\nf "$@"\n'), ALL_PARAMETERS),
     **{f"shift round {name}": (of(start, each('echo "$vN"\n'), end), ALL_PARAMETERS) for name, (start, end) in ROUND.items()},
@@ -573,6 +587,7 @@ FAMILIES = {
     "losing outward": (losing_loops_outward, ()),
     "jumps": (jumps, ()),
     "calls back": (calls_back, ()),
+    "calls late": (calls_late, ()),
     "definitions": (many_definitions, ()),
     "callers": (many_callers, ()),
     "complete": (complete_graph, ()),
