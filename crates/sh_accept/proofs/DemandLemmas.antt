@@ -13,7 +13,7 @@ use Rattle.sh_tree.specs.declared.tree.Special.TheVariants as special
 use Rattle.sh_tree.specs.standard.program.Syntax as p
 use Rattle.sh_tree.specs.standard.program.Syntax.{Text}
 use Rattle.sh_tree.specs.standard.program.Words.{operands_in}
-use Rattle.sh_table.specs.standard.runs.Environment.{is_one_of}
+use Rattle.sh_runs.specs.standard.runs.Environment.{is_one_of}
 use Rattle.sh_domain.specs.Demands.{elements_unmet, clauses_unmet, for_words_unmet, kind_unmet, with_text, dropped, command_moves, drop_at, move_at, is_reached, shared_unmet, unmet, demands}
 use Rattle.sh_domain.specs.Entries.{Around, Entered, script_entered}
 use Rattle.sh_domain.specs.Facts.{Facts, Nowhere, Variable, Parameters, claims, facts, Unreached}

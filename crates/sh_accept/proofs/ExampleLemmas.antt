@@ -1,9 +1,9 @@
 -- What a check answers to known texts, computed.
 use Rattle.std.proofs.Common.{refl}
 use Rattle.sh_scan.specs.Places.{place_of}
-use Rattle.sh_table.specs.Calls.{defined, with_name, names_of}
-use Rattle.sh_table.specs.Sites.{form_of, site_of, placed as site_placed, by_number, sites_of}
-use Rattle.sh_table.proofs.ProfileLemmas.{computes as profile}
+use Rattle.sh_runs.specs.Calls.{defined, with_name, names_of}
+use Rattle.sh_runs.specs.Sites.{form_of, site_of, placed as site_placed, by_number, sites_of}
+use Rattle.sh_runs.proofs.ProfileLemmas.{computes as profile}
 use Rattle.sh_domain.proofs.AnswerLemmas.{computes as rules}
 use Rattle.sh_domain.proofs.TextLemmas.{computes as texts}
 use Rattle.sh_domain.specs.Forms.{read_text}

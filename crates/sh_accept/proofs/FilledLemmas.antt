@@ -7,8 +7,8 @@ use Rattle.sh_tree.specs.declared.limits.TheConstants.{MAX_NESTING}
 use Rattle.sh_tree.specs.declared.tree.Script.{Script}
 use Rattle.sh_tree.specs.standard.program.Syntax.{Text}
 use Rattle.sh_tree.specs.standard.program.Trees.{script_of}
-use Rattle.sh_table.specs.Calls.{table_of, functions_of, names_of, with_name, defined}
-use Rattle.sh_table.specs.Sites.{sites_of}
+use Rattle.sh_runs.specs.Calls.{table_of, functions_of, names_of, with_name, defined}
+use Rattle.sh_runs.specs.Sites.{sites_of}
 use Rattle.sh_domain.specs.Admitted.{Fits, claims_in, functions_in}
 use Rattle.sh_domain.specs.CompactForms.{GivenSheet, Full, Compact, read_given}
 use Rattle.sh_domain.specs.CompactReading.{given_fits}

@@ -7,9 +7,9 @@ use Rattle.sh_tree.specs.standard.language.Bytes.{is_name}
 use Rattle.sh_tree.specs.standard.language.Reading.{Reads, ReadsWithin}
 use Rattle.sh_tree.specs.standard.program.Syntax.{Items}
 use Rattle.sh_tree.specs.standard.program.Trees.{script_of}
-use Rattle.sh_table.specs.Admitted.{is_admitted}
-use Rattle.sh_table.specs.Profile.{first_refused}
-use Rattle.sh_table.proofs.AdmittedLemmas.{admitted_as_listed}
+use Rattle.sh_runs.specs.Admitted.{is_admitted}
+use Rattle.sh_runs.specs.Profile.{first_refused}
+use Rattle.sh_runs.proofs.AdmittedLemmas.{admitted_as_listed}
 use Rattle.sh_domain.proofs.GivenLemmas.{read_has_rows}
 use Rattle.sh_domain.specs.Facts.{Declared}
 use Rattle.sh_domain.specs.Sheets.{Sheet}

@@ -10,7 +10,7 @@ use Rattle.sh_tree.specs.declared.limits.TheConstants.{MAX_NESTING}
 use Rattle.sh_tree.specs.declared.tree.Script.{Script}
 use Rattle.sh_tree.specs.standard.program.Syntax.{Text, Items}
 use Rattle.sh_tree.specs.standard.program.Trees.{script_of}
-use Rattle.sh_table.specs.standard.runs.Environment.{is_one_of}
+use Rattle.sh_runs.specs.standard.runs.Environment.{is_one_of}
 use Rattle.sh_domain.specs.declared.rule.FlowRule.TheVariants.{F13}
 use Rattle.sh_domain.specs.Admitted.{Fits, IsAdmitted, IsGreatest, claims_in, functions_in}
 use Rattle.sh_domain.specs.Facts.{Facts, Known, Claim, Unreached, Claimed, Declared, Atom, Nowhere, Variable, Function, Parameters, claims, facts, start_facts, within}

@@ -7,7 +7,7 @@ use Rattle.std.proofs.lemmas.List.Sorted.{list_any-IsPermutation}
 use Rattle.sh_tree.specs.declared.tree.Script.{Script}
 use Rattle.sh_tree.specs.standard.program.Syntax.{Text}
 use Rattle.sh_tree.specs.Commands.{commands_of}
-use Rattle.sh_table.specs.standard.runs.Environment.{is_one_of}
+use Rattle.sh_runs.specs.standard.runs.Environment.{is_one_of}
 use Rattle.sh_domain.specs.CompactForms.{GivenSheet, Full, Compact}
 use Rattle.sh_domain.specs.CompactReading.{loop_numbers, turns_fit, given_fits}
 use Rattle.sh_domain.specs.Facts.{Claim, Unreached, Claimed, Declared}

@@ -6,8 +6,8 @@ use Rattle.std.proofs.lemmas.Bool.{and_from, and_parts}
 use Rattle.std.proofs.lemmas.List.Folds.{list_all-append}
 use Rattle.sh_tree.specs.declared.refusal.Rule.{Rule}
 use Rattle.sh_tree.specs.standard.program.Syntax as p
-use Rattle.sh_table.specs.Profile.{Refused, command_rule, refused_at, least_refused, first_refused}
-use Rattle.sh_table.specs.Surroundings.{Surroundings, Located, outside, items_located, list_located, links_located, pipeline_located, commands_located, command_located, kind_located, elements_located, redirect_located, redirects_located, branches_located, otherwise_located, for_words_located, words_located, clauses_located, word_located, part_located, operator_located, expression_located, operands_located}
+use Rattle.sh_runs.specs.Profile.{Refused, command_rule, refused_at, least_refused, first_refused}
+use Rattle.sh_runs.specs.Surroundings.{Surroundings, Located, outside, items_located, list_located, links_located, pipeline_located, commands_located, command_located, kind_located, elements_located, redirect_located, redirects_located, branches_located, otherwise_located, for_words_located, words_located, clauses_located, word_located, part_located, operator_located, expression_located, operands_located}
 use Rattle.sh_reads.specs.Spots.{Spot, OfCommand, items_spots, list_spots, links_spots, pipeline_spots, commands_spots, command_spots, kind_spots, elements_spots, redirect_spots, redirects_spots, branches_spots, otherwise_spots, for_words_spots, words_spots, clauses_spots, word_spots, part_spots, operator_spots, expression_spots, operands_spots}
 
 module _ (test : Spot → Bool) where

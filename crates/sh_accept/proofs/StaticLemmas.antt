@@ -10,7 +10,7 @@ use Rattle.sh_tree.specs.standard.program.Words.{operands_in, static_of, words_i
 use Rattle.sh_tree.specs.Lists.{element_from, parts_from}
 use Rattle.sh_tree.proofs.ProgramRules.{kind_of-Simple, parts_listed}
 use Rattle.sh_tree.proofs.ProgramWords.{static_of_parts}
-use Rattle.sh_table.specs.Sites.{form_of, statics}
+use Rattle.sh_runs.specs.Sites.{form_of, statics}
 use Rattle.sh_table.specs.WordTexts.{texts_of}
 use Rattle.sh_table.proofs.WordTextLemmas.{texts_listed}
 use Rattle.sh_accept.specs.Statics.{StaticsAreTexts}

@@ -11,7 +11,7 @@ use Rattle.sh_tree.specs.declared.tree.Script.{Script}
 use Rattle.sh_tree.specs.standard.program.Syntax.{Text}
 use Rattle.sh_tree.specs.standard.program.Trees.{script_of}
 use Rattle.sh_table.specs.Admits.{Admits}
-use Rattle.sh_table.specs.Profile.{first_refused}
+use Rattle.sh_runs.specs.Profile.{first_refused}
 use Rattle.sh_domain.specs.CompactReading.{ReadsGiven}
 use Rattle.sh_domain.specs.Demands.{demands}
 use Rattle.sh_domain.specs.Compacts.{compact_of_sheet, compact_text}

@@ -9,7 +9,7 @@ use Rattle.sh_tree.specs.declared.refusal.Refusal.TheVariants.{TooMany, Memory, 
 use Rattle.sh_tree.specs.declared.tree.Script.{Script}
 use Rattle.sh_tree.specs.standard.program.Syntax.{Text, Items}
 use Rattle.sh_tree.specs.standard.program.Trees.{script_of}
-use Rattle.sh_table.specs.Profile.{Refused, first_refused}
+use Rattle.sh_runs.specs.Profile.{Refused, first_refused}
 use Rattle.sh_domain.specs.Demands.{demands}
 use Rattle.sh_domain.specs.CompactForms.{GivenSheet, Full, Compact, read_given}
 use Rattle.sh_domain.specs.CompactReading.{compact_fits, given_fits}

@@ -7,7 +7,7 @@ use Rattle.sh_tree.specs.declared.tree.Script.{Script}
 use Rattle.sh_tree.specs.standard.program.Syntax.{Text}
 use Rattle.sh_tree.specs.standard.program.Trees.{script_of}
 use Rattle.sh_table.specs.Admits.{Admits}
-use Rattle.sh_table.specs.Profile.{first_refused}
+use Rattle.sh_runs.specs.Profile.{first_refused}
 use Rattle.sh_domain.specs.CompactReading.{ReadsGiven, given_claims}
 use Rattle.sh_domain.specs.Facts.{Declared, start_facts}
 use Rattle.sh_domain.specs.Faults.{Fault, faults, least}

@@ -5,7 +5,7 @@ use Rattle.sh_tree.specs.declared.tree.Element.{Element}
 use Rattle.sh_tree.specs.declared.tree.Kind.TheVariants.{Simple}
 use Rattle.sh_tree.specs.standard.Words.{static_text, words_of}
 use Rattle.sh_tree.specs.standard.program.Trees.{kind_of}
-use Rattle.sh_table.specs.Sites.{form_of, statics}
+use Rattle.sh_runs.specs.Sites.{form_of, statics}
 
 -- What the call table keeps of the command's words, in their order, is what `static_text` reads off
 -- each.

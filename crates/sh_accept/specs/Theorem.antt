@@ -9,9 +9,9 @@ use Rattle.sh_tree.specs.standard.language.Bytes.{is_name}
 use Rattle.sh_tree.specs.standard.language.Reading.{Reads}
 use Rattle.sh_tree.specs.standard.program.Syntax.{Text}
 use Rattle.sh_tree.specs.standard.program.Trees.{script_of}
-use Rattle.sh_table.specs.standard.runs.Environment.{Environment, Frame}
-use Rattle.sh_table.specs.standard.runs.Rows.{has_row}
-use Rattle.sh_table.specs.standard.runs.Worlds.{World, Process, Move, run, has_unset_event, has_split_event, start_world, IsStart}
+use Rattle.sh_runs.specs.standard.runs.Environment.{Environment, Frame}
+use Rattle.sh_runs.specs.standard.runs.Rows.{has_row}
+use Rattle.sh_runs.specs.standard.runs.Worlds.{World, Process, Move, run, has_unset_event, has_split_event, start_world, IsStart}
 use Rattle.sh_domain.specs.Facts.{Declared}
 use Rattle.sh_domain.specs.Sheets.{Sheet}
 use Rattle.sh_answers.specs.declared.verdict.Verdict.TheVariants.{Pass}

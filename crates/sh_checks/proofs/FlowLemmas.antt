@@ -7,8 +7,8 @@ use Rattle.sh_tree.specs.declared.tree.Script.{Script}
 use Rattle.sh_tree.specs.standard.language.Reading.{Reads}
 use Rattle.sh_tree.specs.standard.program.Syntax.{Text}
 use Rattle.sh_tree.specs.standard.program.Trees.{script_of}
-use Rattle.sh_table.specs.Calls.{Table, table_of}
-use Rattle.sh_table.specs.Numbering.{is_numbered}
+use Rattle.sh_runs.specs.Calls.{Table, table_of}
+use Rattle.sh_runs.specs.Numbering.{is_numbered}
 use Rattle.sh_domain.specs.Admitted.{KeepsRules, claims_in}
 use Rattle.sh_domain.specs.Facts.{Declared, start_facts}
 use Rattle.sh_domain.specs.Faults.{faults}

@@ -1,7 +1,7 @@
 //! Whether the flow rules and the demands hold of a certificate.
 ghost use Rattle.std.specs.Prelude.{◌≡◌, Ok, IfErr, IfOk, length};
 ghost use Rattle.sh_tree.specs.Answers.{Parses};
-ghost use Rattle.sh_table.specs.Calls.{table_of};
+ghost use Rattle.sh_runs.specs.Calls.{table_of};
 ghost use Rattle.sh_domain.specs.Certificates.{in_byte_order, sheet_of};
 ghost use Rattle.sh_domain.specs.Names.{Numbers};
 ghost use Rattle.sh_checks.specs.Flows.{FindsFault, Flows, LeavesUnmet, Tells};

@@ -3,7 +3,7 @@ use Rattle.std.proofs.Common.{◌≡◌, ℕ, zero, suc, ◌+◌, ◌/◌, ◌%�
 use Rattle.std.proofs.lemmas.Bool.{cases_lt}
 use Rattle.std.proofs.lemmas.Bool.Decides.{nat_tests}
 use Rattle.sh_tree.specs.standard.program.Syntax.{Text}
-use Rattle.sh_table.specs.standard.runs.Numbers.{last_digits, digits}
+use Rattle.sh_runs.specs.standard.runs.Numbers.{last_digits, digits}
 
 less : (n : ℕ) → 10 ≤ n → nat_lt n 10 ≡ false
 less n h = grind (arith, nat_tests)

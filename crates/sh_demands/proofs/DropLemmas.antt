@@ -21,11 +21,11 @@ use Rattle.sh_tree.specs.standard.program.Syntax as p
 use Rattle.sh_tree.specs.standard.program.Syntax.{Text}
 use Rattle.sh_tree.specs.standard.program.Words.{assignments_in}
 use Rattle.sh_tree.proofs.ProgramRules as rules
-use Rattle.sh_table.specs.Profile.{Static}
+use Rattle.sh_runs.specs.Profile.{Static}
 use Rattle.sh_table.specs.WordTexts.{text_in}
 use Rattle.sh_table.specs.declared.word_text.WordText.{WordText}
-use Rattle.sh_table.specs.standard.runs.Environment.{is_one_of}
-use Rattle.sh_table.specs.standard.runs.Operands.{Removal, OfVariables, OfFunctions, OfEither, OfAny}
+use Rattle.sh_runs.specs.standard.runs.Environment.{is_one_of}
+use Rattle.sh_runs.specs.standard.runs.Operands.{Removal, OfVariables, OfFunctions, OfEither, OfAny}
 use Rattle.sh_operands.specs.declared.options.Letters.{Letters}
 use Rattle.sh_operands.specs.Texts.{no_letters, removal_in, takes_variables, takes_functions, unset_behind}
 use Rattle.sh_operands.proofs.MeaningLemmas.{unset_reads}

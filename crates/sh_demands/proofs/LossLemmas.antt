@@ -7,14 +7,14 @@ use Rattle.sh_tree.specs.declared.known.KnownName.TheVariants as known
 use Rattle.sh_tree.specs.standard.program.Syntax as p
 use Rattle.sh_tree.specs.standard.program.Syntax.{Text, Word}
 use Rattle.sh_tree.specs.standard.program.Words.{static_of, operands_in}
-use Rattle.sh_table.specs.Calls.{called, callee_at, text_at, static_at, texts_with}
-use Rattle.sh_table.specs.standard.Kinds.{kind_of}
-use Rattle.sh_table.specs.standard.Kinds as kinds
-use Rattle.sh_table.specs.Profile.{Static}
-use Rattle.sh_table.specs.declared.kind.Kind.{Kind}
-use Rattle.sh_table.specs.declared.kind.Kind.TheVariants as kind
-use Rattle.sh_table.specs.standard.runs.Environment.{is_one_of}
-use Rattle.sh_table.proofs.FunctionLemmas.{is_placed}
+use Rattle.sh_runs.specs.Calls.{called, callee_at, text_at, static_at, texts_with}
+use Rattle.sh_runs.specs.standard.Kinds.{kind_of}
+use Rattle.sh_runs.specs.standard.Kinds as kinds
+use Rattle.sh_runs.specs.Profile.{Static}
+use Rattle.sh_runs.specs.declared.kind.Kind.{Kind}
+use Rattle.sh_runs.specs.declared.kind.Kind.TheVariants as kind
+use Rattle.sh_runs.specs.standard.runs.Environment.{is_one_of}
+use Rattle.sh_runs.proofs.PositionLemmas.{is_placed}
 use Rattle.sh_domain.specs.Facts.{Facts, NotReached, Known, facts, claims, Variable}
 use Rattle.sh_domain.specs.Gains.{Gains, words_gains, with_gains}
 use Rattle.sh_domain.specs.Operands.{Names, no_names, unset_names}

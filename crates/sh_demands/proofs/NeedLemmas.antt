@@ -18,7 +18,7 @@ use Rattle.sh_tree.specs.standard.program.Syntax as p
 use Rattle.sh_tree.specs.standard.program.Syntax.{Text}
 use Rattle.sh_tree.specs.standard.program.Trees as trees
 use Rattle.sh_tree.proofs.ProgramRules as rules
-use Rattle.sh_table.specs.standard.runs.Numbers.{digits}
+use Rattle.sh_runs.specs.standard.runs.Numbers.{digits}
 use Rattle.sh_domain.specs.Facts.{Facts, claims, Parameters}
 use Rattle.sh_domain.specs.Gains.{job}
 use Rattle.sh_domain.specs.Needs.{wanted, covers, parameter_text, name_needed, target_needed, reads_unmet, operands_read}

@@ -11,9 +11,9 @@ use Rattle.sh_tree.specs.standard.program.Syntax as p
 use Rattle.sh_tree.specs.standard.program.Syntax.{Text}
 use Rattle.sh_tree.specs.standard.program.Trees as trees
 use Rattle.sh_tree.proofs.ListLemmas.{text_same}
-use Rattle.sh_table.specs.Surroundings.{outside}
-use Rattle.sh_table.specs.standard.runs.Environment.{is_one_of}
-use Rattle.sh_table.specs.standard.runs.Worlds.{start_names}
+use Rattle.sh_runs.specs.Surroundings.{outside}
+use Rattle.sh_runs.specs.standard.runs.Environment.{is_one_of}
+use Rattle.sh_runs.specs.standard.runs.Worlds.{start_names}
 use Rattle.sh_domain.specs.Facts.{Declared}
 use Rattle.sh_domain.specs.Gains.{job}
 use Rattle.sh_domain.specs.Names.{IsNumbering, first_names}

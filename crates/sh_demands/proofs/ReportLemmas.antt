@@ -7,8 +7,8 @@ use Rattle.std.proofs.lemmas.List.{length-append}
 use Rattle.sh_tree.specs.declared.place.Place.{Place}
 use Rattle.sh_tree.specs.standard.program.Syntax as p
 use Rattle.sh_tree.specs.standard.program.Syntax.{Text}
-use Rattle.sh_table.specs.Calls.{texts_with}
-use Rattle.sh_table.specs.Profile.{Static}
+use Rattle.sh_runs.specs.Calls.{texts_with}
+use Rattle.sh_runs.specs.Profile.{Static}
 use Rattle.sh_domain.specs.Demands.{drop_at, move_at}
 use Rattle.sh_demands.specs.declared.reports.Reports.{Reports}
 use Rattle.sh_demands.specs.Drops.{once_told, all_told}

@@ -9,7 +9,7 @@ use Rattle.sh_tree.specs.declared.tree.Binary.{Binary}
 use Rattle.sh_tree.specs.declared.tree.Binary.TheVariants as binary
 use Rattle.sh_tree.specs.standard.program.Syntax as p
 use Rattle.sh_tree.specs.standard.program.Syntax.{Text}
-use Rattle.sh_table.specs.standard.runs.Environment.{is_one_of}
+use Rattle.sh_runs.specs.standard.runs.Environment.{is_one_of}
 use Rattle.sh_domain.specs.Facts.{Facts}
 use Rattle.sh_domain.specs.Gains.{Gains, no_gains, and_gains, named, sure, surely, assigned_in, operands_assigned, part_gains, word_gains, operator_gains, expanded_gains, operands_gains, with_gains}
 use Rattle.sh_domain.specs.Needs.{needed, reads_unmet, part_unmet, word_unmet, operator_unmet, expanded_unmet, operands_expanded}

@@ -10,11 +10,11 @@ use Rattle.sh_tree.specs.standard.program.Syntax as p
 use Rattle.sh_tree.specs.standard.program.Syntax.{Text}
 use Rattle.sh_tree.specs.standard.program.Trees.{script_of}
 use Rattle.sh_tree.specs.standard.program.Words.{static_of, operands_in}
-use Rattle.sh_table.specs.Calls as calls
-use Rattle.sh_table.specs.Calls.{Table, table_of, texts_with}
-use Rattle.sh_table.specs.Numbering.{is_numbered}
-use Rattle.sh_table.specs.standard.runs.Environment.{is_one_of}
-use Rattle.sh_table.proofs.FunctionLemmas.{place_later}
+use Rattle.sh_runs.specs.Calls as calls
+use Rattle.sh_runs.specs.Calls.{Table, table_of, texts_with}
+use Rattle.sh_runs.specs.Numbering.{is_numbered}
+use Rattle.sh_runs.specs.standard.runs.Environment.{is_one_of}
+use Rattle.sh_runs.proofs.PositionLemmas.{place_later}
 use Rattle.sh_domain.specs.declared.certificate.Certificate as kept
 use Rattle.sh_domain.specs.declared.certificate.Entry.{Entry}
 use Rattle.sh_domain.specs.declared.certificate.FunctionEntry.{FunctionEntry}

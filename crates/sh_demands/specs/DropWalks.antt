@@ -10,10 +10,10 @@ use Rattle.sh_tree.specs.Lists.{element_from, elements_from}
 use Rattle.sh_tree.specs.standard.program.Syntax as p
 use Rattle.sh_tree.specs.standard.program.Syntax.{Text}
 use Rattle.sh_tree.specs.standard.program.Trees.{kind_of}
-use Rattle.sh_table.specs.Profile.{Static}
+use Rattle.sh_runs.specs.Profile.{Static}
 use Rattle.sh_table.specs.WordTexts.{text_in}
 use Rattle.sh_table.specs.declared.word_text.WordText.{WordText}
-use Rattle.sh_table.specs.standard.runs.Environment.{is_one_of}
+use Rattle.sh_runs.specs.standard.runs.Environment.{is_one_of}
 use Rattle.sh_domain.specs.declared.rows.RowId.{RowId}
 use Rattle.sh_domain.specs.Demands.{drop_at, is_reached}
 use Rattle.sh_domain.specs.Facts.{Facts, claims, Variable}

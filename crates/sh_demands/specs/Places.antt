@@ -6,9 +6,9 @@ use Rattle.sh_tree.specs.declared.place.Place.{Place}
 use Rattle.sh_tree.specs.standard.program.Syntax as p
 use Rattle.sh_tree.specs.standard.program.Syntax.{Text}
 use Rattle.sh_tree.specs.standard.program.Words.{operands_in}
-use Rattle.sh_table.specs.Calls.{Table, texts_with, callee_at}
-use Rattle.sh_table.specs.standard.Kinds.{kind_of}
-use Rattle.sh_table.specs.Profile.{Static}
+use Rattle.sh_runs.specs.Calls.{Table, texts_with, callee_at}
+use Rattle.sh_runs.specs.standard.Kinds.{kind_of}
+use Rattle.sh_runs.specs.Profile.{Static}
 use Rattle.sh_domain.specs.declared.certificate.Certificate.{Certificate}
 use Rattle.sh_domain.specs.Certificates.{claim_of, drops_of, in_byte_order}
 use Rattle.sh_domain.specs.Demands.{is_reached, move_at}

@@ -2,8 +2,8 @@
 //! 2.13).
 ghost use Rattle.std.specs.Prelude.{◌≡◌, ◌<◌, true, fold, length, IfOk, IfErr};
 ghost use Rattle.sh_tree.specs.standard.program.Trees.{command_of, script_of};
-ghost use Rattle.sh_table.specs.Calls.{table_of};
-ghost use Rattle.sh_table.specs.Numbering.{is_numbered};
+ghost use Rattle.sh_runs.specs.Calls.{table_of};
+ghost use Rattle.sh_runs.specs.Numbering.{is_numbered};
 ghost use Rattle.sh_domain.specs.Demands.{demands};
 ghost use Rattle.sh_domain.specs.Facts.{Facts};
 ghost use Rattle.sh_demands.specs.Places.{command_places};

@@ -5,7 +5,7 @@ ghost use Rattle.std.specs.List.{All};
 ghost use Rattle.sh_tree.specs.standard.language.Bytes as bytes;
 ghost use Rattle.sh_tree.specs.Lists.{elements_from};
 ghost use Rattle.sh_table.specs.WordTexts.{text_in};
-ghost use Rattle.sh_table.specs.standard.runs.Environment.{is_one_of};
+ghost use Rattle.sh_runs.specs.standard.runs.Environment.{is_one_of};
 ghost use Rattle.sh_domain.specs.Certificates as claims;
 ghost use Rattle.sh_domain.specs.Knowledge.{AreNumbered};
 ghost use Rattle.sh_demands.specs.Drops as spec;

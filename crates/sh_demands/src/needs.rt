@@ -1,7 +1,7 @@
 //! The parameters that words expand and that are not surely set, as their places (XCU 2.6.1, 2.6.2,
 //! 2.6.4).
 ghost use Rattle.std.specs.Prelude.{◌≡◌, ◌++◌, ◌∷◌, ◌<◌, [], fold, OnOk, IfOk};
-ghost use Rattle.sh_table.specs.standard.runs.Numbers.{digits};
+ghost use Rattle.sh_runs.specs.standard.runs.Numbers.{digits};
 ghost use Rattle.sh_domain.specs.Needs.{wanted};
 ghost use Rattle.sh_tree.specs.declared.place.Code.TheVariants.{U1};
 ghost use Rattle.sh_tree.specs.standard.program.Syntax as p;

@@ -2,7 +2,7 @@
 //! (XCU 2.9.2, 2.13).
 ghost use Rattle.std.specs.Prelude.{◌≡◌, ◌++◌, length, map};
 ghost use Rattle.sh_tree.specs.Lists.{elements_from};
-ghost use Rattle.sh_table.specs.Calls.{callee_at};
+ghost use Rattle.sh_runs.specs.Calls.{callee_at};
 ghost use Rattle.sh_table.specs.WordTexts.{text_in};
 ghost use Rattle.sh_domain.specs.Demands as demands;
 ghost use Rattle.sh_demands.specs.Drops as drops;

@@ -2,7 +2,7 @@
 ghost use Rattle.std.specs.Prelude.{◌≡◌, ℕ, List, ◌-◌, ◌++◌, length, map, option_map, slice_get, unwrap_or};
 ghost use Rattle.sh_tree.specs.Lists.{elements_from};
 ghost use Rattle.sh_tree.specs.standard.program.Syntax.{Text};
-ghost use Rattle.sh_table.specs.Calls as table;
+ghost use Rattle.sh_runs.specs.Calls as table;
 ghost use Rattle.sh_table.specs.WordTexts.{text_in};
 ghost use Rattle.sh_domain.specs.Certificates as claims;
 ghost use Rattle.sh_domain.specs.Certificates.{claim_of};

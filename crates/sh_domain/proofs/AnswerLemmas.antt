@@ -17,10 +17,10 @@ use Rattle.sh_domain.specs.examples.Scripts.{ScriptsAsExpected}
 use Rattle.sh_domain.specs.examples.ShortScripts.{ShortScriptsAsExpected}
 use Rattle.sh_domain.specs.Table.{is_special, manner_of_name, manner_of_words, values_gains, is_redirected, after_set, after_shift, after_utility, after_nameless}
 use Rattle.sh_domain.specs.Views.{if_zero, if_nonzero, in_any_case, swapped, where_known, passes, returned, called, step, steps, source_facts, where_reached, lost}
-use Rattle.sh_table.specs.Counts.{is_all, part_has_all, gives_field, some_gives_field, is_parameters, count_of}
-use Rattle.sh_table.specs.standard.Kinds.{look_up, kind_of}
-use Rattle.sh_table.specs.standard.runs.Numbers.{is_number, number_in, last_digits}
-use Rattle.sh_table.specs.standard.runs.Operands.{is_dashed, removal_of, unset_from, is_set_option, ends_in_o, has_command, read_option, read_from}
+use Rattle.sh_runs.specs.Counts.{is_all, part_has_all, gives_field, some_gives_field, is_parameters, count_of}
+use Rattle.sh_runs.specs.standard.Kinds.{look_up, kind_of}
+use Rattle.sh_runs.specs.standard.runs.Numbers.{is_number, number_in, last_digits}
+use Rattle.sh_runs.specs.standard.runs.Operands.{is_dashed, removal_of, unset_from, is_set_option, ends_in_o, has_command, read_option, read_from}
 use Rattle.sh_tree.specs.standard.language.Bytes.{is_first, name_length, decimal}
 use Rattle.sh_tree.specs.standard.language.Commands.{is_assignment}
 use Rattle.sh_tree.specs.standard.program.Words.{part_text, word_text, part_has, word_has, is_plainly, is_pattern, static_of, words_in, before_word, assignment_in, operands_in, redirects_in, assignments_in}

@@ -9,7 +9,7 @@ use Rattle.sh_tree.specs.declared.place.Code.TheVariants.{P1, P2, Q1, U1, U2, U3
 use Rattle.sh_tree.specs.declared.place.Place.{Place}
 use Rattle.sh_tree.specs.standard.program.Syntax.{Text}
 use Rattle.sh_tree.proofs.ListLemmas.{text_same}
-use Rattle.sh_table.specs.standard.runs.Environment.{is_one_of}
+use Rattle.sh_runs.specs.standard.runs.Environment.{is_one_of}
 use Rattle.sh_domain.specs.Demands.{with_text, each_once, drop_at, move_at}
 use Rattle.sh_domain.specs.Operands.{Names}
 use Rattle.sh_reads.specs.Spots.{OfCommand, OfWord, EachOnce}

@@ -11,7 +11,7 @@ use Rattle.sh_tree.specs.standard.language.Bytes.{is_newline}
 use Rattle.sh_tree.specs.standard.language.HereDocuments.{is_static, is_dollar_quoted, is_delimiter}
 use Rattle.sh_tree.specs.Lists.{parts_from}
 use Rattle.sh_tree.specs.standard.program.Trees as trees
-use Rattle.sh_table.specs.Surroundings.{items_located, word_located, part_located}
+use Rattle.sh_runs.specs.Surroundings.{items_located, word_located, part_located}
 use Rattle.sh_domain.proofs.NumberCounts.{held}
 
 both_static : (o q : Option (List ℕ)) → is_static (both_texts o q) ≡ true → (is_static o ≡ true) × (is_static q ≡ true)

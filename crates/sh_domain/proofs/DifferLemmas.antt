@@ -5,9 +5,9 @@ use Rattle.std.proofs.lemmas.Bool.{and_from, eqb-true}
 use Rattle.sh_tree.specs.declared.tree.Script.{Script}
 use Rattle.sh_tree.specs.standard.language.Reading.{Reads}
 use Rattle.sh_tree.specs.standard.program.Trees.{script_of}
-use Rattle.sh_table.specs.Numbering.{numbers_differ, is_numbered}
-use Rattle.sh_table.specs.Sites.{site_of}
-use Rattle.sh_table.specs.Surroundings.{Located, outside, items_located}
+use Rattle.sh_runs.specs.Numbering.{numbers_differ, is_numbered}
+use Rattle.sh_runs.specs.Sites.{site_of}
+use Rattle.sh_runs.specs.Surroundings.{Located, outside, items_located}
 use Rattle.sh_domain.specs.Readings.{command_number}
 use Rattle.sh_reads.specs.Spots.{EachOnce}
 use Rattle.sh_domain.proofs.NumberLemmas.{read_numbers_differ}

@@ -5,17 +5,17 @@ use Rattle.std.proofs.lemmas.Bool.{and_parts, and_from}
 use Rattle.std.proofs.lemmas.List.Folds.{list_all-append}
 use Rattle.std.proofs.lemmas.Bool.Decides.{nat_tests}
 use Rattle.sh_tree.specs.standard.program.Syntax as p
-use Rattle.sh_table.specs.Admitted.{is_admitted}
-use Rattle.sh_table.specs.Profile.{command_rule, refused_at}
-use Rattle.sh_table.specs.Surroundings.{Surroundings, Located, outside, in_part, in_item, items_located, list_located, links_located, pipeline_located, commands_located, command_located, kind_located, elements_located, redirect_located, redirects_located, branches_located, otherwise_located, for_words_located, words_located, clauses_located, word_located, part_located, operator_located, expression_located, operands_located}
-use Rattle.sh_table.specs.Surroundings as s
+use Rattle.sh_runs.specs.Admitted.{is_admitted}
+use Rattle.sh_runs.specs.Profile.{command_rule, refused_at}
+use Rattle.sh_runs.specs.Surroundings.{Surroundings, Located, outside, in_part, in_item, items_located, list_located, links_located, pipeline_located, commands_located, command_located, kind_located, elements_located, redirect_located, redirects_located, branches_located, otherwise_located, for_words_located, words_located, clauses_located, word_located, part_located, operator_located, expression_located, operands_located}
+use Rattle.sh_runs.specs.Surroundings as s
 use Rattle.sh_domain.specs.declared.rule.FlowRule.{FlowRule}
 use Rattle.sh_domain.specs.declared.rule.FlowRule.TheVariants.{F7, F8}
 use Rattle.sh_domain.specs.Entries.{Around, Entered, alone, in_loop, in_function, is_long, item_rule, item_around, item_seen, part_around, turns, items_after, items_entered, list_entered, links_entered, pipeline_entered, commands_entered, command_entered, kind_entered, elements_entered, redirect_entered, redirects_entered, branches_entered, otherwise_entered, for_words_entered, words_entered, clauses_entered, patterns_entered, word_entered, part_entered, operator_entered, expression_entered, operands_entered, script_entered}
 use Rattle.sh_domain.specs.Inclusions.{Each, surroundings_of, command_formed, is_formed}
 use Rattle.sh_domain.specs.Views.{Seen, After, Both, Head, at, in_any_case, gaining_names}
 use Rattle.sh_domain.proofs.EachLemmas.{each_passes, each_weaker}
-use Rattle.sh_table.proofs.AdmittedLemmas.{is_free, mapped, items_listed}
+use Rattle.sh_runs.proofs.AdmittedLemmas.{is_free, mapped, items_listed}
 
 -- What is round a command, as the profile has it
 

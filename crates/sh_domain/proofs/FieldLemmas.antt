@@ -23,7 +23,7 @@ use Rattle.sh_tree.specs.standard.program.Syntax as p
 use Rattle.sh_tree.specs.standard.program.Trees.{part_of}
 use Rattle.sh_tree.specs.standard.program.Words.{part_text, word_text}
 use Rattle.sh_tree.proofs.ProgramRules.{parts_from-more, part_of-Plain, part_of-Escaped, part_of-Single, part_of-Tilde, part_of-Double, part_of-Param, part_of-Arith, part_of-Command, operator_of-Value, operator_of-Length}
-use Rattle.sh_table.specs.Counts.{gives_field, some_gives_field}
+use Rattle.sh_runs.specs.Counts.{gives_field, some_gives_field}
 use Rattle.sh_reads.proofs.BeginningLemmas.{takes_none, ends, word_takes}
 use Rattle.sh_reads.proofs.FrontLemmas.{Front}
 use Rattle.sh_reads.proofs.SettledLemmas.{IsSettled}

@@ -14,7 +14,7 @@ use Rattle.sh_tree.specs.declared.tree.Unary.{Unary}
 use Rattle.sh_tree.specs.standard.language.Bytes.{is_name}
 use Rattle.sh_tree.specs.standard.program.Syntax as p
 use Rattle.sh_tree.specs.standard.program.Syntax.{Text}
-use Rattle.sh_table.specs.Surroundings.{Surroundings, Located, outside, in_loop, in_function, in_part, in_item, items_located, list_located, links_located, pipeline_located, commands_located, command_located, kind_located, elements_located, redirect_located, redirects_located, branches_located, otherwise_located, for_words_located, words_located, clauses_located, word_located, part_located, operator_located, expression_located, operands_located}
+use Rattle.sh_runs.specs.Surroundings.{Surroundings, Located, outside, in_loop, in_function, in_part, in_item, items_located, list_located, links_located, pipeline_located, commands_located, command_located, kind_located, elements_located, redirect_located, redirects_located, branches_located, otherwise_located, for_words_located, words_located, clauses_located, word_located, part_located, operator_located, expression_located, operands_located}
 use Rattle.sh_domain.specs.Table.{is_redirected}
 use Rattle.sh_domain.specs.Inclusions.{parameter_formed, part_formed, word_formed, operator_formed, expression_formed, operands_formed, field_formed, fields_formed, words_formed, redirect_formed, redirects_formed, elements_formed, for_words_formed, clauses_formed, kind_formed, command_formed}
 

@@ -7,10 +7,10 @@ use Rattle.sh_tree.specs.standard.language.Bytes.{is_name}
 use Rattle.sh_tree.specs.standard.program.Syntax as p
 use Rattle.sh_tree.specs.standard.program.Trees.{script_of}
 use Rattle.sh_tree.specs.standard.program.Words.{is_pattern, word_text, static_of, words_in, operands_in}
-use Rattle.sh_table.specs.Counts.{some_gives_field}
-use Rattle.sh_table.specs.Rows.{text_gives_field, kind_gives_fields, command_gives_fields, gives_fields}
-use Rattle.sh_table.specs.Surroundings.{Located, outside, items_located}
-use Rattle.sh_table.proofs.RowLemmas.{rows_are_there}
+use Rattle.sh_runs.specs.Counts.{some_gives_field}
+use Rattle.sh_runs.specs.Rows.{text_gives_field, kind_gives_fields, command_gives_fields, gives_fields}
+use Rattle.sh_runs.specs.Surroundings.{Located, outside, items_located}
+use Rattle.sh_runs.proofs.RowLemmas.{rows_are_there}
 use Rattle.sh_domain.specs.Inclusions.{word_formed, field_formed, elements_formed, redirect_formed, redirects_formed, kind_formed, command_formed, is_formed}
 use Rattle.sh_domain.specs.Readings.{ReadGivesFields, ReadHasRows}
 use Rattle.sh_domain.specs.Table.{is_redirected}

@@ -8,8 +8,8 @@ use Rattle.std.proofs.lemmas.Option.{slice_get_within, slice_get-get_or}
 use Rattle.std.proofs.lemmas.Slice.Eq.{bytes_eq-Decides}
 use Rattle.sh_tree.specs.standard.program.Syntax.{Text}
 use Rattle.sh_tree.proofs.ListLemmas.{text_same}
-use Rattle.sh_table.specs.standard.runs.Environment.{is_one_of}
-use Rattle.sh_table.proofs.FunctionLemmas.{bytes_eq_swap, is_placed}
+use Rattle.sh_runs.specs.standard.runs.Environment.{is_one_of}
+use Rattle.sh_runs.proofs.PositionLemmas.{bytes_eq_swap, is_placed}
 use Rattle.sh_domain.specs.declared.knowledge.Assured.{Assured}
 use Rattle.sh_domain.specs.declared.number_set.NumberSet.{NumberSet}
 use Rattle.sh_domain.specs.declared.rows.RowId.{RowId}

@@ -10,8 +10,8 @@ use Rattle.sh_rows.specs.Numbers.{has_bit}
 use Rattle.sh_tree.specs.declared.tree.Script.{Script}
 use Rattle.sh_tree.specs.standard.program.Syntax.{Text}
 use Rattle.sh_tree.proofs.ListLemmas.{text_same}
-use Rattle.sh_table.specs.standard.runs.Environment.{is_one_of}
-use Rattle.sh_table.specs.standard.runs.Worlds.{start_names}
+use Rattle.sh_runs.specs.standard.runs.Environment.{is_one_of}
+use Rattle.sh_runs.specs.standard.runs.Worlds.{start_names}
 use Rattle.sh_domain.specs.declared.knowledge.Knowledge.{Knowledge}
 use Rattle.sh_domain.specs.declared.knowledge.Knowledge.TheVariants as kind
 use Rattle.sh_domain.specs.Facts.{Facts, NotReached, Known, Declared, start_facts}

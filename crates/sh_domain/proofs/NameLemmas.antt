@@ -10,8 +10,8 @@ use Rattle.sh_tree.specs.declared.refusal.Refusal.{Refusal}
 use Rattle.sh_tree.specs.declared.refusal.Refusal.TheVariants.{TooLong, NulByte, Syntax, LeftOut, TooDeep, TooMany, Memory, Profile, CertSyntax, CertShape}
 use Rattle.sh_tree.specs.declared.tree.Script.{Script}
 use Rattle.sh_tree.specs.standard.program.Syntax.{Text}
-use Rattle.sh_table.specs.standard.runs.Environment.{is_one_of}
-use Rattle.sh_table.proofs.FunctionLemmas.{bytes_eq_swap}
+use Rattle.sh_runs.specs.standard.runs.Environment.{is_one_of}
+use Rattle.sh_runs.proofs.PositionLemmas.{bytes_eq_swap}
 use Rattle.sh_domain.specs.declared.sights.Seen.{Seen}
 use Rattle.sh_domain.specs.Facts.{Declared}
 use Rattle.sh_domain.specs.Names.{with_text, first_names, numbering, Numbers, IsInTextOrder, Refuses}

@@ -12,8 +12,8 @@ use Rattle.sh_tree.specs.declared.tree.SingleStyle.{SingleStyle}
 use Rattle.sh_tree.specs.declared.tree.Unary.{Unary}
 use Rattle.sh_tree.specs.standard.program.Syntax as p
 use Rattle.sh_tree.specs.standard.program.Syntax.{Text}
-use Rattle.sh_table.specs.Surroundings.{Surroundings, Located, outside, in_loop, in_function, in_part, in_item, branches_located, clauses_located, command_located, commands_located, elements_located, expression_located, for_words_located, items_located, kind_located, links_located, list_located, operands_located, operator_located, otherwise_located, part_located, pipeline_located, redirect_located, redirects_located, word_located, words_located}
-use Rattle.sh_table.specs.Sites.{site_of}
+use Rattle.sh_runs.specs.Surroundings.{Surroundings, Located, outside, in_loop, in_function, in_part, in_item, branches_located, clauses_located, command_located, commands_located, elements_located, expression_located, for_words_located, items_located, kind_located, links_located, list_located, operands_located, operator_located, otherwise_located, part_located, pipeline_located, redirect_located, redirects_located, word_located, words_located}
+use Rattle.sh_runs.specs.Sites.{site_of}
 use Rattle.sh_domain.specs.Readings.{command_number}
 use Rattle.sh_reads.specs.Spots.{EachOnce}
 

@@ -44,7 +44,7 @@ use Rattle.sh_tree.proofs.ProgramRules.{parts_from-empty, parts_from-more, words
 use Rattle.sh_reads.proofs.ProgramTrees.{script_made, items_made, and_or_made, pipe_made, command_made, branches_made, clauses_made}
 use Rattle.std.proofs.lemmas.Bool.{true≢false}
 use Rattle.sh_tree.specs.standard.language.Parts.{is_quoted_word}
-use Rattle.sh_table.specs.Surroundings.{Surroundings, outside, in_loop, in_function, in_part, in_item, items_located, list_located, links_located, pipeline_located, commands_located, command_located, kind_located, elements_located, redirect_located, redirects_located, branches_located, otherwise_located, for_words_located, words_located, clauses_located, word_located, part_located, expression_located, operands_located}
+use Rattle.sh_runs.specs.Surroundings.{Surroundings, outside, in_loop, in_function, in_part, in_item, items_located, list_located, links_located, pipeline_located, commands_located, command_located, kind_located, elements_located, redirect_located, redirects_located, branches_located, otherwise_located, for_words_located, words_located, clauses_located, word_located, part_located, expression_located, operands_located}
 use Rattle.sh_domain.specs.Readings.{ReadNumbersDiffer}
 use Rattle.sh_domain.proofs.DelimiterLemmas.{delimiter_bare}
 use Rattle.sh_domain.proofs.NumberCounts.{next_given, numbers_from_held, held, held_command, held_no_parts, held_parts, held_plain, held_escaped, held_single, held_joined, held_tilde, held_double, held_expansion, held_arithmetic, held_substitution, held_value, held_length, held_use, held_remove, held_constant, held_name, held_expanded, held_parenthesis, held_signed, held_chain, held_choice, held_assigned, held_no_operands, held_operands, held_no_words, held_words, held_every, held_listed, held_file, held_here, held_no_redirects, held_redirects, held_no_elements, held_assignment, held_operand, held_redirection, held_simple, held_group, held_subshell, held_conditional, held_loop, held_for, held_case, held_define, held_no_branches, held_branches, held_no_else, held_else, held_no_clauses, held_clauses, held_no_commands, held_commands, held_pipeline, held_no_links, held_links, held_list, held_no_items, held_items}

@@ -8,7 +8,7 @@ use Rattle.std.proofs.lemmas.Bool.{and_parts, and_from, or_left, or_right, cases
 use Rattle.std.proofs.lemmas.Slice.Eq.{bytes_eq-Decides}
 use Rattle.sh_tree.specs.standard.program.Syntax.{Text}
 use Rattle.sh_tree.proofs.ListLemmas.{text_same}
-use Rattle.sh_table.specs.standard.runs.Environment.{is_one_of}
+use Rattle.sh_runs.specs.standard.runs.Environment.{is_one_of}
 use Rattle.sh_domain.specs.Facts.{Facts, NotReached, Known, Claim, Unreached, Claimed, facts, within, meet, Nowhere, Variable, Function, Parameters, claims}
 use Rattle.sh_domain.specs.Faults.{are_among}
 use Rattle.sh_domain.specs.Operands.{Names}

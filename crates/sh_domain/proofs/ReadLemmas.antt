@@ -45,7 +45,7 @@ use Rattle.sh_tree.specs.standard.program.Syntax as p
 use Rattle.sh_tree.specs.standard.program.Trees.{part_of, expression_of, script_of, and_or_of, pipeline_of, command_of, kind_of, target_of}
 use Rattle.sh_tree.specs.standard.Tree.{text_of}
 use Rattle.sh_tree.proofs.ProgramRules.{parts_from-empty, parts_from-more, words_from-empty, words_from-more, operands_from-empty, operands_from-more, items_from-empty, links_from-empty, links_from-more, commands_from-empty, commands_from-more, elements_from-empty, redirects_from-empty, redirects_from-more, branches_from-empty, clauses_from-empty, otherwise_from-None, otherwise_from-Some, for_words_from-None, for_words_from-Some, kind_of-Simple, kind_of-Group, kind_of-Subshell, kind_of-Cond, kind_of-Loop, kind_of-For, kind_of-Branches, kind_of-Define, elements_from-Assignment, elements_from-Word, elements_from-Redirection, target_of-File, target_of-Here, part_of-Plain, part_of-Escaped, part_of-Single, part_of-Double, part_of-Param, part_of-Arith, part_of-Command, part_of-Tilde, part_of-Joined, operator_of-Value, operator_of-Length, operator_of-Use, operator_of-Remove, expression_of-Constant, expression_of-Variable, expression_of-Expansion, expression_of-Parenthesis, expression_of-Unary, expression_of-Chain, expression_of-Choice, expression_of-Assign}
-use Rattle.sh_table.specs.Surroundings.{outside}
+use Rattle.sh_runs.specs.Surroundings.{outside}
 use Rattle.sh_domain.specs.Inclusions.{part_formed, field_formed, is_formed}
 use Rattle.sh_reads.proofs.BeginningLemmas.{bare_begins, assignment_begins, definition_begins}
 use Rattle.sh_domain.proofs.FieldLemmas.{GivesField, word_gives, item_gives}

@@ -39,8 +39,9 @@ use Rattle.sh_tree.specs.declared.tree.Expr.TheVariants as expression
 use Rattle.sh_tree.specs.declared.tree.Element.TheBlock.{items_hidden-the_row-Part-0, hidden-the_row-Part-0, items_hidden-the_row-Element-3, back-Kind-For-1, items_hidden-the_row-Word-5, items_hidden-the_row-Clause-6, hidden-the_row-Clause-6, shape-the_row-Expr-1, hidden-the_row-Expr-1, items_hidden-the_row-Expr-Chain-1-2-2, hidden-the_row-Expr-Chain-1-2-2}
 use Rattle.sh_tree.specs.standard.Words.{word_in, word_of, words_of, form_of_assignment, form_of_word, form_of_redirection}
 use Rattle.sh_domain.specs.SightWalks.{as_sight, seen_in, listed, listed_word}
-use Rattle.sh_domain.specs.Sights.{Sight, sight, subject_sights, in_row, in_part, in_operator, in_box, in_chain, in_step, in_expression, in_word, in_target, in_element, in_simple, in_clause, in_list, in_kind, in_command, static_sights, read_sights, read_behind, names_behind, go_on, option_takes}
-use Rattle.sh_table.specs.standard.runs.Operands.{ends_options, is_dashed}
+use Rattle.sh_domain.specs.Sights.{Sight, sight, subject_sights, in_row, in_part, in_operator, in_box, in_chain, in_step, in_expression, in_word, in_target, in_element, in_simple, in_clause, in_list, in_kind, in_command, static_sights, read_sights, read_behind, names_behind}
+use Rattle.sh_runs.specs.ReadOptions.{go_on, option_takes}
+use Rattle.sh_runs.specs.standard.runs.Operands.{ends_options, is_dashed}
 
 -- lists
 parts_listed : {m : _} (b : List ℕ) (k : Row_of-Part m) → in_row b k ≡ flat_map (in_part b) (items-the_row-Part m k)

@@ -20,7 +20,7 @@ use Rattle.sh_tree.specs.declared.tree.Target.{Target, File', Here'}
 use Rattle.sh_tree.specs.standard.program.Syntax as p
 use Rattle.sh_tree.specs.standard.program.Trees as trees
 use Rattle.sh_tree.specs.Commands as tree
-use Rattle.sh_table.specs.Surroundings.{Surroundings, Located, items_located, list_located, links_located, pipeline_located, commands_located, command_located, kind_located, elements_located, redirect_located, redirects_located, branches_located, otherwise_located, for_words_located, words_located, clauses_located, word_located, part_located, operator_located, expression_located, operands_located}
+use Rattle.sh_runs.specs.Surroundings.{Surroundings, Located, items_located, list_located, links_located, pipeline_located, commands_located, command_located, kind_located, elements_located, redirect_located, redirects_located, branches_located, otherwise_located, for_words_located, words_located, clauses_located, word_located, part_located, operator_located, expression_located, operands_located}
 
 -- of a test of commands in a tree and one of commands in a program, which an empty group passes
 module _ (b : List ℕ) (ok : Command → Bool) (test : p.Command → Bool) (each : (c : Command) → ok c ≡ true → test (trees.command_of b c) ≡ true)

@@ -6,9 +6,9 @@ use Rattle.std.proofs.lemmas.List.{length-map}
 use Rattle.sh_tree.specs.declared.limits.TheConstants.{MAX_COMMANDS, MAX_NESTING}
 use Rattle.sh_tree.specs.declared.tree.Script.{Script}
 use Rattle.sh_tree.specs.standard.program.Trees.{script_of}
-use Rattle.sh_table.specs.Calls.{row_of, table_of}
-use Rattle.sh_table.specs.Sites.{Site, site_of, placed, by_number, sites_of}
-use Rattle.sh_table.specs.Surroundings.{Located, outside, items_located}
+use Rattle.sh_runs.specs.Calls.{row_of, table_of}
+use Rattle.sh_runs.specs.Sites.{Site, site_of, placed, by_number, sites_of}
+use Rattle.sh_runs.specs.Surroundings.{Located, outside, items_located}
 use Rattle.sh_domain.specs.Readings.{command_number, ReadHasFewCommands}
 use Rattle.sh_domain.proofs.NumberCounts.{held}
 use Rattle.sh_domain.proofs.NumberLemmas.{read_given}

@@ -16,9 +16,9 @@ use Rattle.sh_tree.specs.standard.program.Syntax.{Text}
 use Rattle.sh_tree.specs.standard.program.Trees as trees
 use Rattle.sh_tree.proofs.ProgramRules.{command_of-out}
 use Rattle.sh_tree.specs.Commands.{commands_of}
-use Rattle.sh_table.specs.Sites.{site_of}
-use Rattle.sh_table.specs.Surroundings.{Located, outside, items_located}
-use Rattle.sh_table.specs.standard.runs.Environment.{is_one_of}
+use Rattle.sh_runs.specs.Sites.{site_of}
+use Rattle.sh_runs.specs.Surroundings.{Located, outside, items_located}
+use Rattle.sh_runs.specs.standard.runs.Environment.{is_one_of}
 use Rattle.sh_domain.specs.Forms.{is_variable}
 use Rattle.sh_domain.specs.Inclusions.{command_formed}
 use Rattle.sh_domain.specs.Names.{first_names, with_text, IsInTextOrder}

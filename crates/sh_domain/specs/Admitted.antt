@@ -6,8 +6,8 @@ use Rattle.sh_tree.specs.Answers.{Parses}
 use Rattle.sh_tree.specs.declared.tree.Script.{Script}
 use Rattle.sh_tree.specs.standard.program.Syntax.{Text}
 use Rattle.sh_tree.specs.standard.program.Trees.{script_of}
-use Rattle.sh_table.specs.Calls.{table_of}
-use Rattle.sh_table.specs.Profile.{first_refused}
+use Rattle.sh_runs.specs.Calls.{table_of}
+use Rattle.sh_runs.specs.Profile.{first_refused}
 use Rattle.sh_domain.specs.Facts.{Declared, start_facts}
 use Rattle.sh_domain.specs.Faults.{faults}
 use Rattle.sh_domain.specs.Names.{Numbers}

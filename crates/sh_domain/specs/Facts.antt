@@ -4,8 +4,8 @@
 use Rattle.std.specs.Prelude.{ℕ, nat_le, min, Bool, true, false, ◌&&◌, ◌||◌, List}
 use Rattle.std.specs.List.{list_all}
 use Rattle.sh_tree.specs.standard.program.Syntax.{Text}
-use Rattle.sh_table.specs.standard.runs.Environment.{is_one_of}
-use Rattle.sh_table.specs.standard.runs.Worlds.{start_names}
+use Rattle.sh_runs.specs.standard.runs.Environment.{is_one_of}
+use Rattle.sh_runs.specs.standard.runs.Worlds.{start_names}
 
 -- The variables that are set, `!` among them, the functions that are defined, and how many
 -- positional parameters there are at least.

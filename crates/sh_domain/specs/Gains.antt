@@ -7,7 +7,7 @@ use Rattle.sh_tree.specs.declared.tree.Binary.{Binary}
 use Rattle.sh_tree.specs.declared.tree.Binary.TheVariants as binary
 use Rattle.sh_tree.specs.declared.tree.Special.TheVariants as special
 use Rattle.sh_tree.specs.standard.program.Syntax.{Text, Parameter, Variable, Positional, Special, Part, Double, Expansion, Arithmetic, Word, no_parts, more_parts, Operator, Use, Expression, Expanded, Parenthesis, Signed, Chain, Choice, Assigned, Operands, no_operands, more_operands, Redirect, File, Here, Redirects, no_redirects, more_redirects, Words, no_words, more_words}
-use Rattle.sh_table.specs.standard.runs.Environment.{is_one_of}
+use Rattle.sh_runs.specs.standard.runs.Environment.{is_one_of}
 use Rattle.sh_domain.specs.Facts.{Facts, NotReached, Known}
 
 -- variables that are set after something, and so many positional parameters

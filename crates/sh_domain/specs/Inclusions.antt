@@ -8,12 +8,12 @@ use Rattle.sh_tree.specs.standard.program.Syntax as p
 use Rattle.sh_tree.specs.standard.program.Syntax.{Text, Word}
 use Rattle.sh_tree.specs.standard.program.Words.{redirects_in, word_text}
 use Rattle.sh_tree.specs.declared.known.KnownName.TheVariants as known
-use Rattle.sh_table.specs.declared.kind.Kind.{Kind}
-use Rattle.sh_table.specs.declared.kind.Kind.TheVariants as kind
-use Rattle.sh_table.specs.Counts.{some_gives_field}
-use Rattle.sh_table.specs.Profile.{command_rule}
-use Rattle.sh_table.specs.Surroundings.{Surroundings, Located, outside, items_located}
-use Rattle.sh_table.specs.Admitted.{is_admitted}
+use Rattle.sh_runs.specs.declared.kind.Kind.{Kind}
+use Rattle.sh_runs.specs.declared.kind.Kind.TheVariants as kind
+use Rattle.sh_runs.specs.Counts.{some_gives_field}
+use Rattle.sh_runs.specs.Profile.{command_rule}
+use Rattle.sh_runs.specs.Surroundings.{Surroundings, Located, outside, items_located}
+use Rattle.sh_runs.specs.Admitted.{is_admitted}
 use Rattle.sh_domain.specs.Demands.{kind_unmet, command_moves, is_reached, demands}
 use Rattle.sh_domain.specs.Entries.{Around, Entered, items_after, behind_redirects, otherwise_seen, turns, ends, behind_list, falls, script_entered}
 use Rattle.sh_domain.specs.Facts.{Facts, facts, within}

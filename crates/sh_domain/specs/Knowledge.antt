@@ -6,7 +6,7 @@ use Rattle.std.specs.List.{list_all}
 use Rattle.sh_tree.specs.declared.limits.TheConstants.{MAX_NAMES}
 use Rattle.sh_tree.specs.declared.tree.Script.{Script}
 use Rattle.sh_tree.specs.standard.program.Syntax.{Text}
-use Rattle.sh_table.specs.standard.runs.Environment.{is_one_of}
+use Rattle.sh_runs.specs.standard.runs.Environment.{is_one_of}
 use Rattle.sh_domain.specs.declared.knowledge.Assured.{Assured}
 use Rattle.sh_domain.specs.declared.knowledge.Knowledge.{Knowledge}
 use Rattle.sh_domain.specs.declared.knowledge.Knowledge.TheVariants as kind

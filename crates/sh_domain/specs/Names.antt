@@ -12,8 +12,8 @@ use Rattle.sh_tree.specs.declared.refusal.Refusal.{Refusal}
 use Rattle.sh_tree.specs.declared.refusal.Refusal.TheVariants.{TooMany, Memory}
 use Rattle.sh_tree.specs.standard.program.Syntax.{Text}
 use Rattle.sh_tree.specs.Commands.{commands_of}
-use Rattle.sh_table.specs.standard.runs.Environment.{is_one_of}
-use Rattle.sh_table.specs.standard.runs.Worlds.{start_names}
+use Rattle.sh_runs.specs.standard.runs.Environment.{is_one_of}
+use Rattle.sh_runs.specs.standard.runs.Worlds.{start_names}
 use Rattle.sh_domain.specs.Facts.{Declared}
 use Rattle.sh_domain.specs.Sights.{Sight, in_command}
 

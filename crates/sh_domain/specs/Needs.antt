@@ -9,7 +9,7 @@ use Rattle.sh_tree.specs.declared.tree.Action.TheVariants as action
 use Rattle.sh_tree.specs.declared.tree.Special.TheVariants as special
 use Rattle.sh_tree.specs.standard.program.Syntax as p
 use Rattle.sh_tree.specs.standard.program.Syntax.{Text}
-use Rattle.sh_table.specs.standard.runs.Numbers.{digits}
+use Rattle.sh_runs.specs.standard.runs.Numbers.{digits}
 use Rattle.sh_domain.specs.Facts.{Facts, Variable, Parameters, claims}
 use Rattle.sh_domain.specs.Gains.{sure, part_gains, expanded_gains, redirect_gains, with_gains, through, job}
 

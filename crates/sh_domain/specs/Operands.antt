@@ -6,10 +6,10 @@ use Rattle.std.specs.List.{list_all, filter_map}
 use Rattle.sh_tree.specs.standard.language.Bytes.{is_first, is_name}
 use Rattle.sh_tree.specs.standard.program.Syntax.{Text, Word}
 use Rattle.sh_tree.specs.standard.program.Words.{static_of, assignment_in}
-use Rattle.sh_table.specs.Counts.{Count, Parameters, One, Nothing, count_of}
-use Rattle.sh_table.specs.standard.runs.Numbers.{number_in}
-use Rattle.sh_table.specs.standard.runs.Operands.{Removal, OfVariables, OfFunctions, OfEither, OfAny, unset_operands, is_set_option, ends_options, ends_in_o, has_command}
-use Rattle.sh_table.specs.standard.runs.Operands as o
+use Rattle.sh_runs.specs.Counts.{Count, Parameters, One, Nothing, count_of}
+use Rattle.sh_runs.specs.standard.runs.Numbers.{number_in}
+use Rattle.sh_runs.specs.standard.runs.Operands.{Removal, OfVariables, OfFunctions, OfEither, OfAny, unset_operands, is_set_option, ends_options, ends_in_o, has_command}
+use Rattle.sh_runs.specs.standard.runs.Operands as o
 
 -- variables and functions, by their names
 pub record Names : Type 0 where

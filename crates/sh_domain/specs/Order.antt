@@ -2,7 +2,7 @@
 -- The standard has no such order: facts are compared by the single things that they claim.
 use Rattle.std.specs.Prelude.{◌≡◌, ◌↔◌, ℕ, true, [], ◌∷◌}
 use Rattle.sh_tree.specs.standard.program.Syntax.{Text}
-use Rattle.sh_table.specs.standard.runs.Environment.{is_one_of}
+use Rattle.sh_runs.specs.standard.runs.Environment.{is_one_of}
 use Rattle.sh_domain.specs.Facts.{Facts, NotReached, Claim, facts, within, meet, Atom, claims}
 use Rattle.sh_domain.specs.Operands.{Names}
 use Rattle.sh_domain.specs.Views.{Slot, Certificate, Step, step, View, Seen, view_facts, Loss, lost}

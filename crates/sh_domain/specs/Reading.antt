@@ -12,7 +12,7 @@ use Rattle.sh_tree.specs.declared.tree.Kind.{Kind, Loop, For'}
 use Rattle.sh_tree.specs.declared.tree.Script.{Script}
 use Rattle.sh_tree.specs.standard.program.Syntax.{Text}
 use Rattle.sh_tree.specs.Commands.{commands_of}
-use Rattle.sh_table.specs.standard.runs.Environment.{is_one_of}
+use Rattle.sh_runs.specs.standard.runs.Environment.{is_one_of}
 use Rattle.sh_domain.specs.declared.certificate.Certificate.{Certificate}
 use Rattle.sh_domain.specs.Certificates.{in_byte_order, sheet_of}
 use Rattle.sh_domain.specs.Facts.{Claim, Unreached, Claimed}

@@ -10,15 +10,15 @@ use Rattle.sh_tree.specs.standard.language.Reading.{Reads, ReadsWithin}
 use Rattle.sh_tree.specs.standard.program.Syntax.{Text}
 use Rattle.sh_tree.specs.standard.program.Trees.{script_of}
 use Rattle.sh_reads.specs.Spots.{EachOnce}
-use Rattle.sh_table.specs.Admitted.{is_admitted}
-use Rattle.sh_table.specs.Calls.{table_of}
-use Rattle.sh_table.specs.Numbering.{is_numbered}
-use Rattle.sh_table.specs.Rows.{gives_fields}
-use Rattle.sh_table.specs.Sites.{site_of}
-use Rattle.sh_table.specs.Surroundings.{Located, outside, items_located}
-use Rattle.sh_table.specs.standard.runs.Environment.{Environment, Frame}
-use Rattle.sh_table.specs.standard.runs.Rows.{has_row}
-use Rattle.sh_table.specs.standard.runs.Worlds.{Process, World, Move, run, start_world}
+use Rattle.sh_runs.specs.Admitted.{is_admitted}
+use Rattle.sh_runs.specs.Calls.{table_of}
+use Rattle.sh_runs.specs.Numbering.{is_numbered}
+use Rattle.sh_runs.specs.Rows.{gives_fields}
+use Rattle.sh_runs.specs.Sites.{site_of}
+use Rattle.sh_runs.specs.Surroundings.{Located, outside, items_located}
+use Rattle.sh_runs.specs.standard.runs.Environment.{Environment, Frame}
+use Rattle.sh_runs.specs.standard.runs.Rows.{has_row}
+use Rattle.sh_runs.specs.standard.runs.Worlds.{Process, World, Move, run, start_world}
 use Rattle.sh_domain.specs.Facts.{Declared}
 use Rattle.sh_domain.specs.Forms.{is_variable}
 use Rattle.sh_domain.specs.Inclusions.{is_formed}

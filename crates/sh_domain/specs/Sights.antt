@@ -1,7 +1,7 @@
 -- The names in a script's text, each with its offset.
 -- POSIX.1-2024, XCU 2.5.3 (shell variables), 2.6 (word expansions), 2.9 (shell commands), 2.15 and
 -- 3 (utilities that set or unset by name).
-use Rattle.std.specs.Prelude.{ℕ, nat_lt, ◌==◌, Bool, true, false, not, ◌&&◌, ◌||◌, if◌then◌else◌, List, [], ◌∷◌, ◌++◌, length, take, drop, codes, Option, Some, None}
+use Rattle.std.specs.Prelude.{ℕ, nat_lt, ◌==◌, Bool, true, false, not, ◌&&◌, ◌||◌, if◌then◌else◌, List, [], ◌∷◌, ◌++◌, length, take, codes, Option, Some, None}
 use Rattle.std.specs.List.{flat_map}
 use Rattle.std.specs.Str.{bytes_eq}
 use Rattle.sh_tree.specs.declared.tree.Span.{Span}
@@ -23,8 +23,8 @@ use Rattle.sh_tree.specs.standard.Words.{words_of, static_text}
 use Rattle.sh_tree.specs.standard.language.Bytes.{is_first, is_name, name_length}
 use Rattle.sh_tree.specs.standard.language.Commands.{is_assignment}
 use Rattle.sh_tree.specs.standard.program.Syntax.{Text}
-use Rattle.sh_table.specs.Profile.{Static}
-use Rattle.sh_table.specs.standard.runs.Operands.{is_dashed, ends_options, ReadOption, Complete, TakesNext, Other, read_option}
+use Rattle.sh_runs.specs.ReadOptions.{option_takes, go_on}
+use Rattle.sh_runs.specs.standard.runs.Operands.{is_dashed, ends_options}
 
 -- a name, and its offset
 pub record Sight : Type 0 where
@@ -108,19 +108,6 @@ behind_options (x ∷ xs) = if ends_options x.name then xs else (if is_dashed x.
 abbrev pub unset_sights : List ℕ → List Word → List Sight
 unset_sights b ws = that_are_names (behind_options (static_sights b ws))
 
--- whether an option of `read` takes the next operand, if it is one of the standard's
-unfoldable pub takes_next : ReadOption → Option Bool
-takes_next Complete = Some false
-takes_next TakesNext = Some true
-takes_next Other = None
-
-abbrev pub option_takes : Text → Option Bool
-option_takes t = takes_next (read_option (drop 1 t))
-
-unfoldable pub go_on : {A : Type 0} → Option Bool → (Bool → Option A) → Option A
-go_on None rest = None
-go_on (Some takes) rest = rest takes
-
 -- the operands of `read` after its options, if each option is one of the standard's; whether an
 -- option takes the next operand
 unfoldable pub read_behind : Bool → List Sight → Option (List Sight)
@@ -129,14 +116,6 @@ read_behind true (x ∷ xs) = read_behind false xs
 read_behind false (x ∷ xs) =
     if ends_options x.name then Some xs
     else (if is_dashed x.name then go_on (option_takes x.name) (λ takes. read_behind takes xs) else Some (x ∷ xs))
-
--- the same of static texts, one of which may be missing
-unfoldable pub read_operands : Bool → List Static → Option (List Static)
-read_operands takes [] = Some []
-read_operands true (t ∷ ts) = read_operands false ts
-read_operands false (None ∷ ts) = Some (None ∷ ts)
-read_operands false (Some t ∷ ts) =
-    if ends_options t then Some ts else (if is_dashed t then go_on (option_takes t) (λ takes. read_operands takes ts) else Some (Some t ∷ ts))
 
 unfoldable pub names_behind : Option (List Sight) → List Sight
 names_behind None = []

@@ -5,11 +5,11 @@ use Rattle.std.specs.Prelude.{ℕ, Bool, true, false, not, ◌&&◌, if◌then�
 use Rattle.sh_tree.specs.standard.program.Syntax as p
 use Rattle.sh_tree.specs.standard.program.Syntax.{Text, Word}
 use Rattle.sh_tree.specs.standard.program.Words.{static_of, words_in, operands_in, redirects_in, assignments_in}
-use Rattle.sh_table.specs.standard.Kinds.{kind_of}
-use Rattle.sh_table.specs.declared.kind.Kind.{Kind}
+use Rattle.sh_runs.specs.standard.Kinds.{kind_of}
+use Rattle.sh_runs.specs.declared.kind.Kind.{Kind}
 use Rattle.sh_tree.specs.declared.known.KnownName.TheVariants as known
-use Rattle.sh_table.specs.declared.kind.Kind.TheVariants as kind
-use Rattle.sh_table.specs.standard.runs.Environment.{is_one_of}
+use Rattle.sh_runs.specs.declared.kind.Kind.TheVariants as kind
+use Rattle.sh_runs.specs.standard.runs.Environment.{is_one_of}
 use Rattle.sh_domain.specs.Gains.{Gains, no_gains, named, and_gains, word_gains, words_gains, redirects_gains}
 use Rattle.sh_domain.specs.Operands.{unset_names, declared_names, read_names, getopts_names, positional_words, total, first_number, runs_command}
 use Rattle.sh_domain.specs.Views.{Seen, After, Both, Each, anything, gaining, gaining_names, stepped, Lose, Count, Shift}

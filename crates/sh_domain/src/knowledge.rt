@@ -3,8 +3,8 @@ ghost use Rattle.std.specs.Prelude.{◌≡◌, ◌≤◌, ◌-◌, ℕ, List, []
 ghost use Rattle.std.specs.List.{list_all};
 ghost use Rattle.std.specs.Str.{bytes_eq};
 ghost use Rattle.sh_tree.specs.standard.program.Syntax.{Text};
-ghost use Rattle.sh_table.specs.standard.runs.Environment.{is_one_of};
-ghost use Rattle.sh_table.specs.standard.runs.Worlds.{start_names};
+ghost use Rattle.sh_runs.specs.standard.runs.Environment.{is_one_of};
+ghost use Rattle.sh_runs.specs.standard.runs.Worlds.{start_names};
 ghost use Rattle.sh_domain.specs.declared.certificate.Facts.TheVariants as fact;
 ghost use Rattle.sh_domain.specs.Facts as spec;
 ghost use Rattle.sh_domain.specs.Faults.{are_among};

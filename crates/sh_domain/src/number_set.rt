@@ -5,7 +5,7 @@ ghost use Rattle.std.specs.Str.{bytes_eq};
 ghost use Rattle.sh_rows.specs.Numbers.{has_number};
 ghost use Rattle.sh_tree.specs.declared.limits.TheConstants.{MAX_NAMES};
 ghost use Rattle.sh_tree.specs.standard.program.Syntax.{Text};
-ghost use Rattle.sh_table.specs.standard.runs.Environment.{is_one_of};
+ghost use Rattle.sh_runs.specs.standard.runs.Environment.{is_one_of};
 ghost use Rattle.sh_domain.specs.Certificates.{in_byte_order, names_at};
 ghost use Rattle.sh_domain.specs.KeptRows.{holds_at};
 ghost use Rattle.sh_domain.specs.Knowledge.{AreNumbered, contains};

@@ -3,9 +3,8 @@ ghost use Rattle.std.specs.Prelude.{◌≡◌, false, option_map};
 ghost use Rattle.sh_domain.specs.Sights as spec;
 ghost use Rattle.sh_domain.specs.SightWalks.{seen_in};
 
-use crate::options::option_takes;
 use crate::sights::Seen;
-use sh_table::{ends_options, is_dashed};
+use sh_runs::{ends_options, is_dashed, option_takes};
 
 /// The operands of `unset` after its options.
 #[tactic(auto, unfolding(crate::specs::Sights::behind_options))]

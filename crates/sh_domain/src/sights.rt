@@ -7,7 +7,7 @@ ghost use Rattle.sh_domain.specs.Sights as spec;
 ghost use Rattle.sh_domain.specs.SightWalks.{as_sight, seen_in, listed_word};
 
 use crate::operands::{behind_options, read_behind};
-use sh_table::definition_in;
+use sh_runs::definition_in;
 use sh_tree::{
     Binary, Clause, Command, Element, Expr, Kind, ParameterOperator, Part, Redirect, Span, Subject,
     Target, Word, is_name, static_text,
@@ -344,12 +344,16 @@ fn add_named(
 ) -> Result<(), AllocError>
     ensures { OnOk result (seen_in found.new.items ≡ seen_in found.old.items ++ spec.named_sights script.now name.now (map (λ w. w.now) operands.now)) }
 {
-    match name {
-        b"unset" => add_unset(operands, script, found),
-        b"read" => add_read(operands, script, found),
-        b"getopts" => add_getopts(operands, script, found),
-        b"export" | b"readonly" => add_assigned(operands, script, found),
-        _ => Ok(()),
+    if b"unset".as_slice() == name {
+        add_unset(operands, script, found)
+    } else if b"read".as_slice() == name {
+        add_read(operands, script, found)
+    } else if b"getopts".as_slice() == name {
+        add_getopts(operands, script, found)
+    } else if b"export".as_slice() == name || b"readonly".as_slice() == name {
+        add_assigned(operands, script, found)
+    } else {
+        Ok(())
     }
 }
 
@@ -487,7 +491,7 @@ fn add_assigned_one(word: &Word, script: &[u8], found: &mut Vec<Seen>) -> Result
     }
 }
 
-#[tactic(auto, unfolding(crate::specs::Sights::front_sights, sh_table::specs::standard::runs::Operands::definition_in))]
+#[tactic(auto, unfolding(crate::specs::Sights::front_sights, sh_runs::specs::standard::runs::Operands::definition_in))]
 fn add_front(at: u32, text: &[u8], found: &mut Vec<Seen>) -> Result<(), AllocError>
     ensures { OnOk result (seen_in found.new.items ≡ seen_in found.old.items ++ spec.front_sights at text.now) }
 {

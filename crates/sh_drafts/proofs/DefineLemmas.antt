@@ -13,10 +13,10 @@ use Rattle.sh_tree.specs.standard.program.Syntax as p
 use Rattle.sh_tree.specs.standard.program.Syntax.{Text, Word}
 use Rattle.sh_tree.specs.standard.program.Trees.{script_of}
 use Rattle.sh_tree.specs.standard.program.Words.{redirects_in}
-use Rattle.sh_table.specs.declared.kind.Kind.{Kind}
-use Rattle.sh_table.specs.declared.kind.Kind.TheVariants as kind
-use Rattle.sh_table.specs.standard.runs.Environment.{is_one_of}
-use Rattle.sh_table.specs.standard.runs.Operands.{Removal, OfVariables, OfFunctions, OfEither, OfAny, unset_operands}
+use Rattle.sh_runs.specs.declared.kind.Kind.{Kind}
+use Rattle.sh_runs.specs.declared.kind.Kind.TheVariants as kind
+use Rattle.sh_runs.specs.standard.runs.Environment.{is_one_of}
+use Rattle.sh_runs.specs.standard.runs.Operands.{Removal, OfVariables, OfFunctions, OfEither, OfAny, unset_operands}
 use Rattle.sh_domain.specs.declared.rule.FlowRule.{FlowRule}
 use Rattle.sh_domain.specs.declared.rule.FlowRule.TheVariants.{F4, F5, F6, F7, F8, F9, F10, F11, F13, F14, F15}
 use Rattle.sh_domain.specs.Entries.{Around, Entered, behind_redirects, falls, items_after, otherwise_seen, script_entered, turns}

@@ -2,7 +2,7 @@
 -- The standard has no such thing: what is surely set (XCU 2.5), of the names that are numbered.
 use Rattle.std.specs.Prelude.{ℕ, Bool, false, List, filter, map, Option, Some, None, slice_get}
 use Rattle.sh_tree.specs.standard.program.Syntax.{Text}
-use Rattle.sh_table.specs.standard.runs.Environment.{is_one_of}
+use Rattle.sh_runs.specs.standard.runs.Environment.{is_one_of}
 use Rattle.sh_domain.specs.Facts.{Claim, Claimed, Unreached, Facts, NotReached, Known}
 use Rattle.sh_domain.specs.Knowledge.{at_number}
 use Rattle.sh_domain.specs.Names.{number_of}

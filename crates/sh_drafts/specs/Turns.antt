@@ -2,7 +2,7 @@
 -- The standard has no such thing: a certificate is lowered until it keeps all flow rules.
 use Rattle.std.specs.Prelude.{◌≡◌, ℕ, ◌<◌, Bool, true, false, List, [], length, flat_map, Option, Some}
 use Rattle.sh_tree.specs.standard.program.Syntax.{Text}
-use Rattle.sh_table.specs.standard.runs.Environment.{is_one_of}
+use Rattle.sh_runs.specs.standard.runs.Environment.{is_one_of}
 use Rattle.sh_domain.specs.declared.certificate.Certificate.{Certificate}
 use Rattle.sh_domain.specs.Certificates.{in_byte_order, sheet_of}
 use Rattle.sh_domain.specs.Facts.{Facts, facts}

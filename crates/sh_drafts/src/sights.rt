@@ -2,7 +2,7 @@
 ghost use Rattle.std.specs.Prelude.{◌≡◌, ◌≤◌, ◌||◌, [], ◌∷◌, ℕ, List, length, slice_get};
 ghost use Rattle.sh_tree.specs.declared.limits.TheConstants.{MAX_NAMES};
 ghost use Rattle.sh_tree.specs.standard.program.Syntax.{Text};
-ghost use Rattle.sh_table.specs.standard.runs.Environment.{is_one_of};
+ghost use Rattle.sh_runs.specs.standard.runs.Environment.{is_one_of};
 ghost use Rattle.sh_domain.specs.Certificates.{in_byte_order, names_at};
 ghost use Rattle.sh_domain.specs.Knowledge.{AreNumbered, assured_facts};
 ghost use Rattle.sh_domain.specs.NumberSets.{numbers_of};

@@ -1,7 +1,7 @@
 //! A script whose certificate the search seeks.
 ghost use Rattle.std.specs.Prelude.{◌≡◌, true};
 ghost use Rattle.sh_tree.specs.declared.limits.TheConstants.{MAX_NAMES};
-ghost use Rattle.sh_table.specs.Calls.{table_of};
+ghost use Rattle.sh_runs.specs.Calls.{table_of};
 ghost use Rattle.sh_domain.specs.Certificates.{in_byte_order};
 ghost use Rattle.sh_domain.specs.Compacts.{compact_claims};
 ghost use Rattle.sh_domain.specs.Spelling.{is_writable};

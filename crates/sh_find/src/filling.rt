@@ -4,7 +4,7 @@ ghost use Rattle.std.specs.Prelude.{◌≡◌, List, Bool, true, length, map, If
 ghost use Rattle.std.specs.List.Sorted.{IsNonDecreasingBy, IsPermutation};
 ghost use Rattle.sh_tree.specs.Commands.{commands_of};
 ghost use Rattle.sh_tree.specs.declared.tree.Command.{out-Command};
-ghost use Rattle.sh_table.specs.Calls.{table_of};
+ghost use Rattle.sh_runs.specs.Calls.{table_of};
 ghost use Rattle.sh_domain.specs.Admitted.{IsAdmitted, functions_in};
 ghost use Rattle.sh_domain.specs.Certificates.{in_byte_order, sheet_of};
 ghost use Rattle.sh_domain.specs.Reading.{AreLoops, fits};

@@ -3,10 +3,8 @@
 //! filled, and then checked as any other.
 #![tactic(auto)]
 
-mod claimed;
 pub mod laws;
 
-pub use claimed::certified;
 pub use sh_checks::{Flow, check_flow};
 pub use sh_domain::FlowRule;
 pub use sh_find::fill;

@@ -7,10 +7,10 @@ use Rattle.std.proofs.lemmas.List.Folds.{list_any-append}
 use Rattle.std.proofs.lemmas.Slice.Eq.{bytes_eq-Decides}
 use Rattle.sh_tree.specs.standard.program.Syntax as p
 use Rattle.sh_tree.specs.standard.program.Syntax.{Text}
-use Rattle.sh_table.specs.Calls.{defined, with_name, names_of}
-use Rattle.sh_table.specs.Sites.{Site, site_of, form_of, placed, by_number, sites_of}
-use Rattle.sh_table.specs.Surroundings.{Surroundings, Located, outside, items_located}
-use Rattle.sh_table.specs.standard.runs.Environment.{is_one_of}
+use Rattle.sh_runs.specs.Calls.{defined, with_name, names_of}
+use Rattle.sh_runs.specs.Sites.{Site, site_of, form_of, placed, by_number, sites_of}
+use Rattle.sh_runs.specs.Surroundings.{Surroundings, Located, outside, items_located}
+use Rattle.sh_runs.specs.standard.runs.Environment.{is_one_of}
 use Rattle.sh_domain.specs.Entries.{Entered, script_entered}
 use Rattle.sh_domain.specs.Rules.{defined_by, functions_of}
 use Rattle.sh_gains.proofs.LocatedLemmas.{script_listed}

@@ -3,9 +3,9 @@ use Rattle.std.proofs.Common.{◌≡◌, List, [], ◌∷◌, map, refl, ap}
 use Rattle.std.specs.List.{cons_option}
 use Rattle.sh_tree.specs.standard.program.Syntax.{Word}
 use Rattle.sh_tree.specs.standard.program.Words.{static_of}
-use Rattle.sh_table.specs.standard.Kinds as kinds
-use Rattle.sh_table.specs.declared.kind.Kind.{Kind}
-use Rattle.sh_table.specs.declared.kind.Kind.TheVariants as kind
+use Rattle.sh_runs.specs.standard.Kinds as kinds
+use Rattle.sh_runs.specs.declared.kind.Kind.{Kind}
+use Rattle.sh_runs.specs.declared.kind.Kind.TheVariants as kind
 use Rattle.sh_domain.specs.Operands.{statics}
 use Rattle.sh_domain.specs.Table.{is_special}
 use Rattle.sh_gains.specs.Statics.{listed}

@@ -6,7 +6,7 @@ use Rattle.std.proofs.Math.Path.{fun_ext}
 use Rattle.std.proofs.lemmas.List.Elements.{filter-append}
 use Rattle.std.proofs.lemmas.List.Folds.{list_any-append}
 use Rattle.sh_tree.specs.standard.program.Syntax.{Text}
-use Rattle.sh_table.specs.standard.runs.Environment.{is_one_of}
+use Rattle.sh_runs.specs.standard.runs.Environment.{is_one_of}
 use Rattle.sh_domain.specs.Facts.{Facts, NotReached, Known}
 use Rattle.sh_domain.specs.Gains.{Gains, no_gains, named, and_gains, with_gains}
 use Rattle.sh_domain.specs.Knowledge as knowledge

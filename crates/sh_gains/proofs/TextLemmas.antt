@@ -8,11 +8,11 @@ use Rattle.std.proofs.lemmas.Slice.Eq.{bytes_eq-Decides}
 use Rattle.sh_tree.specs.standard.program.Syntax as p
 use Rattle.sh_tree.specs.standard.program.Syntax.{Text}
 use Rattle.sh_tree.specs.standard.program.Words.{static_of}
-use Rattle.sh_table.specs.Calls.{Row, row_of, texts_with, table_of}
-use Rattle.sh_table.specs.Numbering.{is_numbered}
-use Rattle.sh_table.specs.Profile.{Static}
-use Rattle.sh_table.specs.Sites.{site_of, form_of, statics, sites_of}
-use Rattle.sh_table.specs.Surroundings.{Surroundings, Located, outside, items_located}
+use Rattle.sh_runs.specs.Calls.{Row, row_of, texts_with, table_of}
+use Rattle.sh_runs.specs.Numbering.{is_numbered}
+use Rattle.sh_runs.specs.Profile.{Static}
+use Rattle.sh_runs.specs.Sites.{site_of, form_of, statics, sites_of}
+use Rattle.sh_runs.specs.Surroundings.{Surroundings, Located, outside, items_located}
 use Rattle.sh_table.proofs.NumberLemmas.{Tells, numbered_tells}
 use Rattle.sh_domain.specs.Entries.{Entered, script_entered}
 use Rattle.sh_domain.specs.Table.{operands}

@@ -3,7 +3,7 @@
 use Rattle.std.specs.Prelude.{List}
 use Rattle.std.specs.List.{filter_map}
 use Rattle.sh_tree.specs.standard.program.Syntax.{Text}
-use Rattle.sh_table.specs.Profile.{Static}
+use Rattle.sh_runs.specs.Profile.{Static}
 
 -- the texts of the words that are static
 abbrev pub listed : List Static → List Text

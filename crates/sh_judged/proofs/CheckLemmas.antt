@@ -6,7 +6,7 @@ use Rattle.sh_tree.specs.declared.refusal.Refusal.TheVariants.{Memory}
 use Rattle.sh_tree.specs.declared.tree.Script.{Script}
 use Rattle.sh_tree.specs.standard.program.Syntax.{Text}
 use Rattle.sh_tree.specs.standard.program.Trees.{script_of}
-use Rattle.sh_table.specs.Numbering.{is_numbered}
+use Rattle.sh_runs.specs.Numbering.{is_numbered}
 use Rattle.sh_domain.specs.Facts.{Declared}
 use Rattle.sh_domain.specs.Sheets.{Sheet}
 use Rattle.sh_domain.proofs.DifferLemmas.{read_is_numbered}

@@ -7,8 +7,8 @@ use Rattle.sh_tree.specs.declared.refusal.Refusal.TheVariants.{TooLong, NulByte,
 use Rattle.sh_tree.specs.declared.tree.Script.{Script}
 use Rattle.sh_tree.specs.standard.program.Trees.{script_of}
 use Rattle.sh_table.specs.Admits.{Admits}
-use Rattle.sh_table.specs.Calls.{table_of}
-use Rattle.sh_table.specs.Profile.{first_refused}
+use Rattle.sh_runs.specs.Calls.{table_of}
+use Rattle.sh_runs.specs.Profile.{first_refused}
 use Rattle.sh_domain.specs.Facts.{Declared}
 use Rattle.sh_domain.specs.Names.{Numbers}
 use Rattle.sh_domain.proofs.TotalLemmas.{read_has_few_commands}

@@ -3,7 +3,7 @@
 use Rattle.std.specs.Prelude.{◌≡◌, ℕ, List, length, Result, Ok, Err}
 use Rattle.sh_tree.specs.declared.refusal.Refusal.{Refusal}
 use Rattle.sh_tree.specs.standard.program.Syntax.{Text}
-use Rattle.sh_table.specs.Calls.{table_of}
+use Rattle.sh_runs.specs.Calls.{table_of}
 use Rattle.sh_domain.specs.Certificates.{in_byte_order, sheet_of}
 use Rattle.sh_domain.specs.CompactReading.{ReadsGiven}
 use Rattle.sh_domain.specs.Compacts.{compact_claims, compact_of_sheet}

@@ -1,7 +1,7 @@
 //! Scripts that are admitted.
 ghost use Rattle.std.specs.Prelude.{◌≡◌, Ok, IfErr, IfOk};
 ghost use Rattle.sh_tree.specs.Answers.{Parses};
-ghost use Rattle.sh_table.specs.Calls.{table_of};
+ghost use Rattle.sh_runs.specs.Calls.{table_of};
 ghost use Rattle.sh_domain.specs.Admitted.{IsAdmitted};
 ghost use Rattle.sh_accept.specs.Answers.{NoRefusal, Refuses};
 ghost use Rattle.sh_judged.specs.Prepared.{IsPrepared};

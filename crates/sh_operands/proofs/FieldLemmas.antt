@@ -26,7 +26,7 @@ use Rattle.sh_tree.specs.standard.program.Syntax as p
 use Rattle.sh_tree.specs.standard.program.Trees as trees
 use Rattle.sh_tree.specs.standard.program.Words.{words_in, operands_in}
 use Rattle.sh_tree.proofs.ProgramRules as rules
-use Rattle.sh_table.specs.Counts.{Parameters, One, Nothing, count_of, is_parameters, word_has_all, gives_field, some_gives_field}
+use Rattle.sh_runs.specs.Counts.{Parameters, One, Nothing, count_of, is_parameters, word_has_all, gives_field, some_gives_field}
 use Rattle.sh_table.specs.WordTexts.{lone_part}
 use Rattle.sh_operands.specs.declared.counts.Total.{Total}
 use Rattle.sh_operands.specs.Numerals.{capped}

@@ -25,8 +25,8 @@ use Rattle.sh_tree.specs.Lists.{parts_from, operands_from}
 use Rattle.sh_tree.specs.standard.program.Syntax as p
 use Rattle.sh_tree.specs.standard.program.Trees as trees
 use Rattle.sh_tree.proofs.ProgramRules as rules
-use Rattle.sh_table.specs.Counts.{is_all, word_has_all, operator_has_all}
-use Rattle.sh_table.specs.Quoting.{is_at, is_ifs, word_mentions, word_assigns, operator_assigns, operator_mentions}
+use Rattle.sh_runs.specs.Counts.{is_all, word_has_all, operator_has_all}
+use Rattle.sh_runs.specs.Quoting.{is_at, is_ifs, word_mentions, word_assigns, operator_assigns, operator_mentions}
 use Rattle.sh_operands.specs.declared.looks.Look.{Look}
 use Rattle.sh_operands.specs.declared.looks.Look.TheVariants.{SetsIfs, At, Parameters}
 use Rattle.sh_operands.specs.Looks as spec

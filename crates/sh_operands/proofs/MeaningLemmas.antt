@@ -3,13 +3,13 @@ use Rattle.std.proofs.Common.{◌≡◌, ◌≤◌, ◌<◌, ℕ, suc, ◌+◌, 
 use Rattle.std.proofs.Math.Nat.{mul-le-mul_left}
 use Rattle.std.proofs.lemmas.Option.{none-some}
 use Rattle.sh_tree.specs.standard.program.Syntax.{Text, Word}
-use Rattle.sh_table.specs.Counts.{Count, Parameters, One, Nothing, count_of, least_fields}
-use Rattle.sh_table.specs.Profile.{Static}
-use Rattle.sh_table.specs.standard.runs.Answers.{Answer}
-use Rattle.sh_table.specs.standard.runs.Builtins.{is_removed, removed, removed_all, unset_names}
-use Rattle.sh_table.specs.standard.runs.Environment.{Environment, Frame, with_variable, with_function}
-use Rattle.sh_table.specs.standard.runs.Numbers.{number_in}
-use Rattle.sh_table.specs.standard.runs.Operands.{Removal, OfVariables, OfFunctions, OfEither, OfAny, set_from, ends_options, is_set_option, ends_in_o}
+use Rattle.sh_runs.specs.Counts.{Count, Parameters, One, Nothing, count_of, least_fields}
+use Rattle.sh_runs.specs.Profile.{Static}
+use Rattle.sh_runs.specs.standard.runs.Answers.{Answer}
+use Rattle.sh_runs.specs.standard.runs.Builtins.{is_removed, removed, removed_all, unset_names}
+use Rattle.sh_runs.specs.standard.runs.Environment.{Environment, Frame, with_variable, with_function}
+use Rattle.sh_runs.specs.standard.runs.Numbers.{number_in}
+use Rattle.sh_runs.specs.standard.runs.Operands.{Removal, OfVariables, OfFunctions, OfEither, OfAny, set_from, ends_options, is_set_option, ends_in_o}
 use Rattle.sh_operands.specs.declared.counts.Total.{Total}
 use Rattle.sh_operands.specs.Fields.{no_fields, counted, counted_word}
 use Rattle.sh_operands.specs.Meaning.{UnsetReads, UnsetKeeps, SetReads, SetStays, NumbersRead, FieldsCount, least_of}

@@ -2,8 +2,8 @@
 use Rattle.std.proofs.Common.{◌≡◌, ℕ, suc, ◌+◌, ◌==◌, Bool, true, false, not, ◌&&◌, ◌||◌, if◌then◌else◌, List, [], ◌∷◌, ◌++◌, drop, Option, Some, None, option_map, refl, sym, ap, ap₂, ◌∙◌, arith, true≢false}
 use Rattle.std.specs.List.{list_all}
 use Rattle.sh_tree.specs.standard.program.Syntax.{Text}
-use Rattle.sh_table.specs.Profile.{Static}
-use Rattle.sh_table.specs.standard.runs.Operands.{Removal, OfVariables, OfFunctions, OfEither, OfAny, removal_of, unset_from, ends_options, is_dashed, is_set_option, ends_in_o}
+use Rattle.sh_runs.specs.Profile.{Static}
+use Rattle.sh_runs.specs.standard.runs.Operands.{Removal, OfVariables, OfFunctions, OfEither, OfAny, removal_of, unset_from, ends_options, is_dashed, is_set_option, ends_in_o}
 use Rattle.sh_operands.specs.declared.options.Letters.{Letters}
 use Rattle.sh_operands.specs.Meaning.{listed}
 use Rattle.sh_operands.specs.Texts.{no_letters, with_option, removal_in, takes_variables, takes_functions, unset_behind, positional_at, positional_from}

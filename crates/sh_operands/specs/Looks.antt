@@ -16,8 +16,8 @@ use Rattle.sh_tree.specs.declared.tree.Subject.TheVariants as subject
 use Rattle.sh_tree.specs.standard.program.Syntax as p
 use Rattle.sh_tree.specs.standard.program.Syntax.{Text}
 use Rattle.sh_tree.specs.standard.program.Trees as trees
-use Rattle.sh_table.specs.Counts.{part_has_all, word_has_all, expression_has_all, operands_have_all}
-use Rattle.sh_table.specs.Quoting.{word_mentions, part_mentions, expression_mentions, operands_mention, part_assigns, word_assigns, expression_assigns, operands_assign, is_at, is_ifs}
+use Rattle.sh_runs.specs.Counts.{part_has_all, word_has_all, expression_has_all, operands_have_all}
+use Rattle.sh_runs.specs.Quoting.{word_mentions, part_mentions, expression_mentions, operands_mention, part_assigns, word_assigns, expression_assigns, operands_assign, is_at, is_ifs}
 use Rattle.sh_operands.specs.declared.looks.Look.{Look}
 use Rattle.sh_operands.specs.declared.looks.Look.TheVariants.{SetsIfs, At, Parameters}
 

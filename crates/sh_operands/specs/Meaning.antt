@@ -3,13 +3,13 @@
 use Rattle.std.specs.Prelude.{◌≡◌, ◌≤◌, ◌<◌, ℕ, ◌+◌, ◌*◌, false, List, [], ◌∷◌, ◌++◌, length, drop, map, fold, Some, None, option_map}
 use Rattle.std.specs.List.{filter_map}
 use Rattle.sh_tree.specs.standard.program.Syntax.{Text, Word}
-use Rattle.sh_table.specs.Counts.{count_of, least_fields}
-use Rattle.sh_table.specs.Profile.{Static}
-use Rattle.sh_table.specs.standard.runs.Answers.{Answer}
-use Rattle.sh_table.specs.standard.runs.Builtins.{unset_names}
-use Rattle.sh_table.specs.standard.runs.Environment.{Environment, Frame}
-use Rattle.sh_table.specs.standard.runs.Numbers.{number_in}
-use Rattle.sh_table.specs.standard.runs.Operands.{Removal, unset_operands, set_words}
+use Rattle.sh_runs.specs.Counts.{count_of, least_fields}
+use Rattle.sh_runs.specs.Profile.{Static}
+use Rattle.sh_runs.specs.standard.runs.Answers.{Answer}
+use Rattle.sh_runs.specs.standard.runs.Builtins.{unset_names}
+use Rattle.sh_runs.specs.standard.runs.Environment.{Environment, Frame}
+use Rattle.sh_runs.specs.standard.runs.Numbers.{number_in}
+use Rattle.sh_runs.specs.standard.runs.Operands.{Removal, unset_operands, set_words}
 use Rattle.sh_operands.specs.declared.counts.Total.{Total}
 use Rattle.sh_operands.specs.Fields.{no_fields, counted_word}
 use Rattle.sh_operands.specs.Numerals.{most, capped}

@@ -4,8 +4,8 @@
 use Rattle.std.specs.Prelude.{ℕ, suc, ◌+◌, ◌==◌, Bool, true, false, ◌&&◌, if◌then◌else◌, List, [], ◌∷◌, drop, Option, Some, None, option_map}
 use Rattle.std.specs.List.{list_all}
 use Rattle.sh_tree.specs.standard.program.Syntax.{Text}
-use Rattle.sh_table.specs.Profile.{Static}
-use Rattle.sh_table.specs.standard.runs.Operands.{Removal, OfVariables, OfFunctions, OfEither, OfAny, ends_options, is_dashed, is_set_option, ends_in_o}
+use Rattle.sh_runs.specs.Profile.{Static}
+use Rattle.sh_runs.specs.standard.runs.Operands.{Removal, OfVariables, OfFunctions, OfEither, OfAny, ends_options, is_dashed, is_set_option, ends_in_o}
 use Rattle.sh_operands.specs.declared.options.Letters.{Letters}
 
 -- The letters of the options of `unset`: whether there are some, and whether all are `v`, or `f`

@@ -3,7 +3,7 @@ ghost use Rattle.std.specs.Prelude.{◌≡◌, ℕ, List, drop, false, fold};
 ghost use Rattle.std.specs.List.{list_any};
 ghost use Rattle.sh_tree.specs.Lists.{parts_from, elements_from};
 ghost use Rattle.sh_tree.specs.standard.program.Words.{words_in, operands_in};
-ghost use Rattle.sh_table.specs.Counts.{count_of, is_parameters, some_gives_field};
+ghost use Rattle.sh_runs.specs.Counts.{count_of, is_parameters, some_gives_field};
 ghost use Rattle.sh_table.specs.WordTexts.{lone_part};
 ghost use Rattle.sh_operands.specs.Fields as spec;
 

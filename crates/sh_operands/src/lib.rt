@@ -11,4 +11,4 @@ mod options;
 pub use counts::count_behind;
 pub use looks::{Look, is_ifs, word_has};
 pub use numbers::number_in;
-pub use options::{positional_at, unset_operands};
+pub use options::{positional_at, read_operands, unset_operands};

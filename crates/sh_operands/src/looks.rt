@@ -3,7 +3,7 @@ ghost use Rattle.std.specs.Prelude.{◌≡◌, ℕ, List, false};
 ghost use Rattle.std.specs.List.{list_any};
 ghost use Rattle.sh_tree.specs.standard.Tree.{text_of};
 ghost use Rattle.sh_tree.specs.Lists.{parts_from};
-ghost use Rattle.sh_table.specs.Quoting.{is_ifs};
+ghost use Rattle.sh_runs.specs.Quoting.{is_ifs};
 ghost use Rattle.sh_operands.specs.Looks as spec;
 
 use sh_tree::{Action, Binary, Expr, Param, ParameterOperator, Part, Span, Special, Subject, Word};

@@ -1,6 +1,6 @@
 //! Numbers that operands write.
 ghost use Rattle.std.specs.Prelude.{◌≡◌, fold, option_map};
-ghost use Rattle.sh_table.specs.standard.runs.Numbers as numbers;
+ghost use Rattle.sh_runs.specs.standard.runs.Numbers as numbers;
 ghost use Rattle.sh_operands.specs.Numerals.{capped, with_digit};
 
 use sh_table::is_number;
@@ -25,7 +25,7 @@ fn value_of(text: &[u8]) -> u32
 }
 
 /// The number that the text writes in decimal digits, or 4,294,967,295 if that is greater.
-#[tactic(auto, using(crate::proofs::NumeralLemmas::written), unfolding(sh_table::specs::standard::runs::Numbers::number_in))]
+#[tactic(auto, using(crate::proofs::NumeralLemmas::written), unfolding(sh_runs::specs::standard::runs::Numbers::number_in))]
 pub fn number_in(text: &[u8]) -> Option<u32>
     ensures { result ≡ option_map capped (numbers.number_in text.now) }
 {

@@ -1,10 +1,12 @@
 //! Operands after options, by their static texts (XBD 12.2, XCU 2.15).
-ghost use Rattle.std.specs.Prelude.{IfSome, ◌≡◌, ◌==◌, ◌≤◌, length, drop, map, false};
+ghost use Rattle.std.specs.Prelude.{IfSome, ◌≡◌, ◌==◌, ◌≤◌, length, drop, map, option_map, false};
 ghost use Rattle.std.specs.List.{list_all};
+ghost use Rattle.sh_runs.specs.ReadOptions.{read_operands};
 ghost use Rattle.sh_table.specs.WordTexts.{text_in};
 ghost use Rattle.sh_operands.specs.Texts as spec;
 
-use sh_table::{WordText, ends_in_o, ends_options, is_dashed, is_set_option};
+use sh_runs::{ends_options, is_dashed, option_takes};
+use sh_table::{WordText, ends_in_o, is_set_option};
 
 /// The letters of the options of `unset`: whether there are some, and whether all of them are `v`,
 /// or all `f`.
@@ -148,4 +150,32 @@ pub fn positional_at(words: &[WordText], script: &[u8]) -> Option<usize>
     ensures within { IfSome result (λ at. at ≤ length words.now) }
 {
     find_positional(words, script)
+}
+
+/// The operands of `read` after its options; nothing if an option is not one of the standard's
+/// (XCU 3, read).
+#[tactic(auto, unfolding(sh_runs::specs::ReadOptions::read_operands, sh_runs::specs::ReadOptions::go_on))]
+pub fn read_operands<'a>(texts: &'a [WordText], script: &[u8]) -> Option<&'a [WordText]>
+    ensures { option_map (λ left. map (text_in script.now) left.now) result ≡ read_operands false (map (text_in script.now) texts.entry.now) }
+{
+    let mut rest = texts;
+    let mut takes = false;
+    while let [first, others @ ..] = rest {
+        if takes {
+            takes = false;
+        } else {
+            let Some(text) = first.get(script) else {
+                return Some(rest);
+            };
+            if ends_options(text) {
+                return Some(others);
+            }
+            if !is_dashed(text) {
+                return Some(rest);
+            }
+            takes = option_takes(text)?;
+        }
+        rest = others;
+    }
+    Some(rest)
 }

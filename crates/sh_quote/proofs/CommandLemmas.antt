@@ -29,11 +29,11 @@ use Rattle.sh_tree.specs.standard.program.Trees as trees
 use Rattle.sh_tree.specs.standard.program.Words.{assignment_in, before_word, words_in, operands_in, redirects_in, assignments_in}
 use Rattle.sh_tree.proofs.ProgramForms.{operands_of_elements}
 use Rattle.sh_tree.proofs.ProgramRules as rules
-use Rattle.sh_table.specs.Profile.{Static}
-use Rattle.sh_table.specs.Quoting.{is_at, is_ifs, word_assigns, word_mentions}
-use Rattle.sh_table.specs.declared.kind.Kind as meaning
-use Rattle.sh_table.specs.declared.kind.Kind.TheVariants as kinds
-use Rattle.sh_table.specs.standard.runs.Steps.{opened}
+use Rattle.sh_runs.specs.Profile.{Static}
+use Rattle.sh_runs.specs.Quoting.{is_at, is_ifs, word_assigns, word_mentions}
+use Rattle.sh_runs.specs.declared.kind.Kind as meaning
+use Rattle.sh_runs.specs.declared.kind.Kind.TheVariants as kinds
+use Rattle.sh_runs.specs.standard.runs.Steps.{opened}
 use Rattle.sh_quote.specs.Steady.{steady_assignment, steady_value, steady_text, redirect_words, value_words, kind_words, for_words, pattern_words}
 use Rattle.sh_quote.specs.Operands.{front_steady, parts_declared, all_declared, is_one_field, first_options, all_options, operands_steady, names_other}
 use Rattle.sh_quote.specs.Commands.{by_form, all_declared_by, is_one_field_by, all_options_by, operands_by, named_by, words_by, kind_by, command_by, element_steady, named_steady, words_steady, kind_steady, word_sets, target_sets, element_sets, clause_sets, kind_sets, command_steady}

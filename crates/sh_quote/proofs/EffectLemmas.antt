@@ -6,19 +6,19 @@ use Rattle.std.proofs.lemmas.Option.{none-some}
 use Rattle.std.proofs.lemmas.Slice.Eq.{bytes_eq-Decides}
 use Rattle.sh_tree.specs.standard.program.Syntax as p
 use Rattle.sh_tree.specs.standard.program.Syntax.{Text}
-use Rattle.sh_table.specs.Quoting.{is_ifs, is_steady}
-use Rattle.sh_table.specs.Surroundings.{outside}
-use Rattle.sh_table.specs.standard.runs.Environment.{Environment, Frame, with_variable, with_function, put_text, showing, hiding, copied}
-use Rattle.sh_table.specs.standard.runs.Answers.{Given, Answer}
-use Rattle.sh_table.specs.standard.runs.Builtins.{restored, unset_names, given_to, read_into, gets_option, changes_directory}
-use Rattle.sh_table.specs.standard.runs.Expansion.{Context, expand}
-use Rattle.sh_table.specs.standard.runs.Operands.{definition_in, definitions_in, Removal}
-use Rattle.sh_table.specs.standard.runs.States.{State, Copy, fresh}
-use Rattle.sh_table.specs.standard.runs.Steps.{unless_ended}
-use Rattle.sh_table.specs.standard.runs.Work.{Work, Saved, Start, Effect, goes, ends, of_copies, after_expansion}
-use Rattle.sh_table.proofs.EnvironmentLemmas.{all_removed_kept}
-use Rattle.sh_table.proofs.ExpansionLemmas.{Closed, word_stays}
-use Rattle.sh_table.proofs.ProcessLemmas.{StartHolds, StartsHold, NextHolds}
+use Rattle.sh_runs.specs.Quoting.{is_ifs, is_steady}
+use Rattle.sh_runs.specs.Surroundings.{outside}
+use Rattle.sh_runs.specs.standard.runs.Environment.{Environment, Frame, with_variable, with_function, put_text, showing, hiding, copied}
+use Rattle.sh_runs.specs.standard.runs.Answers.{Given, Answer}
+use Rattle.sh_runs.specs.standard.runs.Builtins.{restored, unset_names, given_to, read_into, gets_option, changes_directory}
+use Rattle.sh_runs.specs.standard.runs.Expansion.{Context, expand}
+use Rattle.sh_runs.specs.standard.runs.Operands.{definition_in, definitions_in, Removal}
+use Rattle.sh_runs.specs.standard.runs.States.{State, Copy, fresh}
+use Rattle.sh_runs.specs.standard.runs.Steps.{unless_ended}
+use Rattle.sh_runs.specs.standard.runs.Work.{Work, Saved, Start, Effect, goes, ends, of_copies, after_expansion}
+use Rattle.sh_runs.proofs.EnvironmentLemmas.{all_removed_kept}
+use Rattle.sh_runs.proofs.ExpansionLemmas.{Closed, word_stays}
+use Rattle.sh_runs.proofs.ProcessLemmas.{StartHolds, StartsHold, NextHolds}
 use Rattle.sh_quote.specs.Invariant.{steady_definition, steady_field, watched, is_good, WordGood, ItemsGood, CommandGood, SavedGood, ShownGood, WorkGood, AllWorkGood, EnvironmentGood}
 use Rattle.sh_quote.proofs.SteadyLemmas.{either_or}
 

@@ -11,17 +11,17 @@ use Rattle.sh_tree.specs.declared.place.Place.{Place}
 use Rattle.sh_tree.specs.standard.program.Syntax as p
 use Rattle.sh_tree.specs.standard.program.Syntax.{Text}
 use Rattle.sh_tree.specs.standard.program.Words.{operands_in, redirects_in, assignments_in, static_of, assignment_in, words_in}
-use Rattle.sh_table.specs.declared.kind.Kind.{Kind}
-use Rattle.sh_table.specs.declared.kind.Kind.TheVariants as kind
-use Rattle.sh_table.specs.Counts.{some_gives_field}
-use Rattle.sh_table.specs.standard.Kinds.{kind_of, is_declaration}
-use Rattle.sh_table.specs.Profile.{named_rule, words_rule, command_rule, refused_at}
-use Rattle.sh_table.specs.Quoting.{word_assigns, is_ifs}
-use Rattle.sh_table.specs.Rows.{text_gives_field, kind_gives_fields, command_gives_fields}
-use Rattle.sh_table.specs.Surroundings.{Surroundings, Located, outside, in_loop, in_function, items_located, command_located, kind_located, elements_located, redirect_located, redirects_located, branches_located, otherwise_located, for_words_located, words_located, clauses_located, word_located}
-use Rattle.sh_table.specs.standard.runs.Operands as o
-use Rattle.sh_table.specs.standard.runs.Steps.{opened}
-use Rattle.sh_table.proofs.ExpansionLemmas.{each_parts, word_assigns_none}
+use Rattle.sh_runs.specs.declared.kind.Kind.{Kind}
+use Rattle.sh_runs.specs.declared.kind.Kind.TheVariants as kind
+use Rattle.sh_runs.specs.Counts.{some_gives_field}
+use Rattle.sh_runs.specs.standard.Kinds.{kind_of, is_declaration}
+use Rattle.sh_runs.specs.Profile.{named_rule, words_rule, command_rule, refused_at}
+use Rattle.sh_runs.specs.Quoting.{word_assigns, is_ifs}
+use Rattle.sh_runs.specs.Rows.{text_gives_field, kind_gives_fields, command_gives_fields}
+use Rattle.sh_runs.specs.Surroundings.{Surroundings, Located, outside, in_loop, in_function, items_located, command_located, kind_located, elements_located, redirect_located, redirects_located, branches_located, otherwise_located, for_words_located, words_located, clauses_located, word_located}
+use Rattle.sh_runs.specs.standard.runs.Operands as o
+use Rattle.sh_runs.specs.standard.runs.Steps.{opened}
+use Rattle.sh_runs.proofs.ExpansionLemmas.{each_parts, word_assigns_none}
 use Rattle.sh_domain.specs.Operands.{statics, read_names}
 use Rattle.sh_quote.specs.Places.{word_places, split_operands, split_words}
 use Rattle.sh_quote.specs.Steady.{redirect_words, value_words, for_words, pattern_words, kind_words, is_static, steady_assignment, steady_operands, steady_words, steady_kind, steady_command}

@@ -8,9 +8,9 @@ use Rattle.sh_tree.specs.standard.program.Syntax as p
 use Rattle.sh_tree.specs.standard.program.Syntax.{Word}
 use Rattle.sh_tree.specs.standard.program.Trees.{script_of}
 use Rattle.sh_tree.specs.standard.program.Words.{assignment_in, operands_in, static_of, words_in}
-use Rattle.sh_table.specs.standard.Kinds.{is_declaration, kind_of}
-use Rattle.sh_table.specs.Quoting.{word_begins_pattern}
-use Rattle.sh_table.specs.Surroundings.{Surroundings, Located, outside, items_located, list_located, links_located, pipeline_located, commands_located, command_located, kind_located, elements_located, redirect_located, redirects_located, branches_located, otherwise_located, for_words_located, words_located, clauses_located, word_located, part_located, operator_located, expression_located, operands_located}
+use Rattle.sh_runs.specs.standard.Kinds.{is_declaration, kind_of}
+use Rattle.sh_runs.specs.Quoting.{word_begins_pattern}
+use Rattle.sh_runs.specs.Surroundings.{Surroundings, Located, outside, items_located, list_located, links_located, pipeline_located, commands_located, command_located, kind_located, elements_located, redirect_located, redirects_located, branches_located, otherwise_located, for_words_located, words_located, clauses_located, word_located, part_located, operator_located, expression_located, operands_located}
 use Rattle.sh_reads.specs.Spots.{Spot, OfWord, items_spots, list_spots, links_spots, pipeline_spots, commands_spots, command_spots, kind_spots, elements_spots, redirect_spots, redirects_spots, branches_spots, otherwise_spots, for_words_spots, words_spots, clauses_spots, word_spots, part_spots, operator_spots, expression_spots, operands_spots}
 use Rattle.sh_reads.proofs.HitLemmas.{hits, hits_join, hits_cons, is_of_command, spots_once}
 use Rattle.sh_reads.proofs.OnceLemmas.{read_spots_once}

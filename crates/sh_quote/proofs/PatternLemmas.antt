@@ -18,8 +18,8 @@ use Rattle.sh_tree.specs.Lists.{parts_from}
 use Rattle.sh_tree.specs.standard.program.Syntax as p
 use Rattle.sh_tree.specs.standard.program.Trees as trees
 use Rattle.sh_tree.proofs.ProgramRules as rules
-use Rattle.sh_table.specs.Quoting.{part_begins_pattern, word_begins_pattern}
-use Rattle.sh_table.specs.standard.runs.Fields.{begins_pattern}
+use Rattle.sh_runs.specs.Quoting.{part_begins_pattern, word_begins_pattern}
+use Rattle.sh_runs.specs.standard.runs.Fields.{begins_pattern}
 use Rattle.sh_quote.specs.Patterns.{operator_begins_pattern, part_begins, parts_begin, operator_begins}
 
 pub parts_listed : (b : List ℕ) (ps : List Part) → word_begins_pattern (parts_from b ps) ≡ parts_begin b ps

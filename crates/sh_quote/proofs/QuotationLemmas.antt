@@ -22,7 +22,7 @@ use Rattle.sh_tree.specs.standard.language.Words.{is_alternative}
 use Rattle.sh_tree.specs.standard.program.Syntax as p
 use Rattle.sh_tree.specs.standard.program.Trees as trees
 use Rattle.sh_tree.proofs.ProgramRules as rules
-use Rattle.sh_table.specs.Quoting as quoting
+use Rattle.sh_runs.specs.Quoting as quoting
 use Rattle.sh_quote.specs.Places as places
 use Rattle.sh_quote.specs.Quotations.{are_some_quotes, quoted_alternative, subject_is_numeric, number_given, told, part_told}
 

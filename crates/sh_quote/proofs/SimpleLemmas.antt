@@ -13,25 +13,25 @@ use Rattle.sh_tree.specs.standard.program.Syntax.{Text}
 use Rattle.sh_tree.specs.standard.Words.{is_wildcard}
 use Rattle.sh_tree.specs.standard.language.Bytes.{is_name}
 use Rattle.sh_tree.specs.standard.program.Words.{Assignments, part_has, word_has, is_pattern, static_of, word_text, assignment_in, words_in}
-use Rattle.sh_table.specs.declared.kind.Kind.{Kind}
-use Rattle.sh_table.specs.declared.kind.Kind.TheVariants as kind
-use Rattle.sh_table.specs.Counts.{some_gives_field}
-use Rattle.sh_table.specs.standard.Kinds.{kind_of, is_declaration}
-use Rattle.sh_table.specs.Quoting.{is_quotation, are_quotations, word_mentions, is_at, is_whole, are_whole, word_begins_pattern, is_ifs, is_steady}
-use Rattle.sh_table.specs.Rows.{text_gives_field}
-use Rattle.sh_table.specs.standard.runs.Environment.{Environment, Frame, showing, hiding, separators}
-use Rattle.sh_table.specs.standard.runs.Answers.{Given, Answer}
-use Rattle.sh_table.specs.standard.runs.Builtins.{nonzero, given_to, read_into, shifted, restored, returned, special, special_or_end, reads, gets_option, changes_directory, utility}
-use Rattle.sh_table.specs.standard.runs.Expansion.{Context, in_fields, in_one, Outcome, pieces_text, expand}
-use Rattle.sh_table.specs.standard.runs.Fields.{fields, splits}
-use Rattle.sh_table.specs.standard.runs.Operands as o
-use Rattle.sh_table.specs.standard.runs.States.{State, fresh}
-use Rattle.sh_table.specs.standard.runs.Steps.{Manner, Nameless, Special, Named, named_manner, manner, opened, is_declared, word_context, word_fields, word_splits, status_behind, Preparation, ready, next_redirect, next_assignment, in_order, in_any_order, next_preparation, unless_ended, words, failed_in, redirected, assignment, invoked, prepared, prepare, kept, seen, utility_step, unseen, call}
-use Rattle.sh_table.specs.standard.runs.Work.{Simple, Work, Command, Words, Prepare, Utility, Call, Return, Test, Again, ForFields, Saved, Effect, goes, after_expansion, Mark, no_loop, marked, or_nearer, nth_mark, loop_mark, broken_off, continued, return_mark}
-use Rattle.sh_table.proofs.StaticLemmas.{static_fields}
-use Rattle.sh_table.proofs.SteadyLemmas.{steady_separators}
-use Rattle.sh_table.proofs.TextLemmas.{quotations_one}
-use Rattle.sh_table.proofs.UnsplitLemmas.{is_still_part, are_still, still_never_splits, whole_never_splits}
+use Rattle.sh_runs.specs.declared.kind.Kind.{Kind}
+use Rattle.sh_runs.specs.declared.kind.Kind.TheVariants as kind
+use Rattle.sh_runs.specs.Counts.{some_gives_field}
+use Rattle.sh_runs.specs.standard.Kinds.{kind_of, is_declaration}
+use Rattle.sh_runs.specs.Quoting.{is_quotation, are_quotations, word_mentions, is_at, is_whole, are_whole, word_begins_pattern, is_ifs, is_steady}
+use Rattle.sh_runs.specs.Rows.{text_gives_field}
+use Rattle.sh_runs.specs.standard.runs.Environment.{Environment, Frame, showing, hiding, separators}
+use Rattle.sh_runs.specs.standard.runs.Answers.{Given, Answer}
+use Rattle.sh_runs.specs.standard.runs.Builtins.{nonzero, given_to, read_into, shifted, restored, returned, special, special_or_end, reads, gets_option, changes_directory, utility}
+use Rattle.sh_runs.specs.standard.runs.Expansion.{Context, in_fields, in_one, Outcome, pieces_text, expand}
+use Rattle.sh_runs.specs.standard.runs.Fields.{fields, splits}
+use Rattle.sh_runs.specs.standard.runs.Operands as o
+use Rattle.sh_runs.specs.standard.runs.States.{State, fresh}
+use Rattle.sh_runs.specs.standard.runs.Steps.{Manner, Nameless, Special, Named, named_manner, manner, opened, is_declared, word_context, word_fields, word_splits, status_behind, Preparation, ready, next_redirect, next_assignment, in_order, in_any_order, next_preparation, unless_ended, words, failed_in, redirected, assignment, invoked, prepared, prepare, kept, seen, utility_step, unseen, call}
+use Rattle.sh_runs.specs.standard.runs.Work.{Simple, Work, Command, Words, Prepare, Utility, Call, Return, Test, Again, ForFields, Saved, Effect, goes, after_expansion, Mark, no_loop, marked, or_nearer, nth_mark, loop_mark, broken_off, continued, return_mark}
+use Rattle.sh_runs.proofs.StaticLemmas.{static_fields}
+use Rattle.sh_runs.proofs.SteadyLemmas.{steady_separators}
+use Rattle.sh_runs.proofs.TextLemmas.{quotations_one}
+use Rattle.sh_runs.proofs.UnsplitLemmas.{is_still_part, are_still, still_never_splits, whole_never_splits}
 use Rattle.sh_domain.specs.Operands.{statics}
 use Rattle.sh_quote.specs.Places.{told_at, part_places, parts_places, word_places}
 use Rattle.sh_quote.specs.Steady.{is_static, steady_assignment, steady_text, steady_declared, steady_operand, steady_getopts}

@@ -4,16 +4,16 @@ use Rattle.std.proofs.Common.{◌≡◌, ℕ, Bool, true, false, ◌||◌, if◌
 use Rattle.std.specs.List.{list_all}
 use Rattle.std.proofs.lemmas.Bool.{and_parts, and_from}
 use Rattle.std.proofs.lemmas.Option.{none-some}
-use Rattle.sh_table.specs.Quoting.{is_steady}
-use Rattle.sh_table.specs.Rows.{command_gives_fields}
-use Rattle.sh_table.specs.Surroundings.{Located, outside, items_located}
-use Rattle.sh_table.specs.standard.runs.Environment.{Environment, Frame}
-use Rattle.sh_table.specs.standard.runs.Answers.{Answer}
-use Rattle.sh_table.specs.standard.runs.Steps.{act}
-use Rattle.sh_table.specs.standard.runs.Work.{Work}
-use Rattle.sh_table.specs.standard.runs.Worlds.{Process, World, Move, waits, effect_of, may_step, stepping, has_unset_event, has_split_event}
-use Rattle.sh_table.proofs.AdmittedLemmas.{is_free, items_listed}
-use Rattle.sh_table.proofs.ProcessLemmas.{WorldHolds, work_holds, Kept, run_holds}
+use Rattle.sh_runs.specs.Quoting.{is_steady}
+use Rattle.sh_runs.specs.Rows.{command_gives_fields}
+use Rattle.sh_runs.specs.Surroundings.{Located, outside, items_located}
+use Rattle.sh_runs.specs.standard.runs.Environment.{Environment, Frame}
+use Rattle.sh_runs.specs.standard.runs.Answers.{Answer}
+use Rattle.sh_runs.specs.standard.runs.Steps.{act}
+use Rattle.sh_runs.specs.standard.runs.Work.{Work}
+use Rattle.sh_runs.specs.standard.runs.Worlds.{Process, World, Move, waits, effect_of, may_step, stepping, has_unset_event, has_split_event}
+use Rattle.sh_runs.proofs.AdmittedLemmas.{is_free, items_listed}
+use Rattle.sh_runs.proofs.ProcessLemmas.{WorldHolds, work_holds, Kept, run_holds}
 use Rattle.sh_quote.specs.Places.{word_places, split_words, unquoted}
 use Rattle.sh_quote.specs.Steady.{steady_command, steady}
 use Rattle.sh_quote.specs.Theorem.{QuotingSuffices}

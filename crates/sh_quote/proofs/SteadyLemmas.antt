@@ -9,13 +9,13 @@ use Rattle.sh_tree.specs.standard.language.Commands.{is_assignment}
 use Rattle.sh_tree.specs.standard.program.Syntax as p
 use Rattle.sh_tree.specs.standard.program.Syntax.{Text}
 use Rattle.sh_tree.specs.standard.program.Words.{part_text, word_text, static_of, before_word, assignment_in}
-use Rattle.sh_table.specs.Quoting.{is_ifs, is_steady}
-use Rattle.sh_table.specs.standard.runs.Environment.{Frame}
-use Rattle.sh_table.specs.standard.runs.Expansion.{Literal, Piece, Bytes, in_one, piece_text, pieces_text, Outcome, gives, followed, expand_part, expand}
-use Rattle.sh_table.specs.standard.runs.Operands.{definition_in}
-use Rattle.sh_table.specs.standard.runs.States.{State}
-use Rattle.sh_table.proofs.StaticLemmas.{Joins, joined_some, unless}
-use Rattle.sh_table.proofs.TextLemmas.{word_writes, Assigns, assignment_front, first_below}
+use Rattle.sh_runs.specs.Quoting.{is_ifs, is_steady}
+use Rattle.sh_runs.specs.standard.runs.Environment.{Frame}
+use Rattle.sh_runs.specs.standard.runs.Expansion.{Literal, Piece, Bytes, in_one, piece_text, pieces_text, Outcome, gives, followed, expand_part, expand}
+use Rattle.sh_runs.specs.standard.runs.Operands.{definition_in}
+use Rattle.sh_runs.specs.standard.runs.States.{State}
+use Rattle.sh_runs.proofs.StaticLemmas.{Joins, joined_some, unless}
+use Rattle.sh_runs.proofs.TextLemmas.{word_writes, Assigns, assignment_front, first_below}
 use Rattle.sh_quote.specs.Steady.{steady_value, steady_assignment, ifs_and_equals, steady_text}
 use Rattle.sh_quote.specs.Invariant.{steady_definition, steady_field}
 

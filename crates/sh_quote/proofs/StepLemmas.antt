@@ -9,16 +9,16 @@ use Rattle.sh_tree.specs.declared.tree.LoopKind.{LoopKind}
 use Rattle.sh_tree.specs.standard.program.Syntax as p
 use Rattle.sh_tree.specs.standard.program.Syntax.{Text}
 use Rattle.sh_tree.specs.standard.program.Words.{is_plainly}
-use Rattle.sh_table.specs.Surroundings.{Surroundings, outside, in_part, in_item, items_located, list_located, links_located, pipeline_located, commands_located, command_located, branches_located, otherwise_located}
-use Rattle.sh_table.specs.standard.runs.Environment.{Environment, Frame, copied}
-use Rattle.sh_table.specs.standard.runs.Answers.{Answer}
-use Rattle.sh_table.specs.standard.runs.Builtins.{nonzero}
-use Rattle.sh_table.specs.standard.runs.Expansion.{in_fields, in_one, Outcome, expand}
-use Rattle.sh_table.specs.standard.runs.States.{fresh}
-use Rattle.sh_table.specs.standard.runs.Steps.{opened, word_fields, word_splits, status_behind, picked, takes_link, takes_turn, and_or_work, simple_work, command_work, unless_ended, negated_work, parts, piped, items, links, failed_before, redirected_before, over_fields, over_words, begun, is_started_first, in_process, compound, branch, test, for_words, for_fields, fall, clause_list, falls, clauses, matched, patterns, act_on}
-use Rattle.sh_table.specs.standard.runs.Work.{Work, Items, Links, Pipeline, Negation, Command, Words, Prepare, Utility, Call, Return, Compound, If, Then, Test, Again, ForWords, ForFields, Clauses, Patterns, Fall, Start, Shares, Copies, Effect, goes, after_expansion}
-use Rattle.sh_table.proofs.ExpansionLemmas.{each_parts}
-use Rattle.sh_table.proofs.ProcessLemmas.{StartHolds, StartsHold}
+use Rattle.sh_runs.specs.Surroundings.{Surroundings, outside, in_part, in_item, items_located, list_located, links_located, pipeline_located, commands_located, command_located, branches_located, otherwise_located}
+use Rattle.sh_runs.specs.standard.runs.Environment.{Environment, Frame, copied}
+use Rattle.sh_runs.specs.standard.runs.Answers.{Answer}
+use Rattle.sh_runs.specs.standard.runs.Builtins.{nonzero}
+use Rattle.sh_runs.specs.standard.runs.Expansion.{in_fields, in_one, Outcome, expand}
+use Rattle.sh_runs.specs.standard.runs.States.{fresh}
+use Rattle.sh_runs.specs.standard.runs.Steps.{opened, word_fields, word_splits, status_behind, picked, takes_link, takes_turn, and_or_work, simple_work, command_work, unless_ended, negated_work, parts, piped, items, links, failed_before, redirected_before, over_fields, over_words, begun, is_started_first, in_process, compound, branch, test, for_words, for_fields, fall, clause_list, falls, clauses, matched, patterns, act_on}
+use Rattle.sh_runs.specs.standard.runs.Work.{Work, Items, Links, Pipeline, Negation, Command, Words, Prepare, Utility, Call, Return, Compound, If, Then, Test, Again, ForWords, ForFields, Clauses, Patterns, Fall, Start, Shares, Copies, Effect, goes, after_expansion}
+use Rattle.sh_runs.proofs.ExpansionLemmas.{each_parts}
+use Rattle.sh_runs.proofs.ProcessLemmas.{StartHolds, StartsHold}
 use Rattle.sh_quote.specs.Invariant.{watched, is_good, AllGood, WordGood, WordsGood, RedirectsGood, SplitWordsGood, ItemsGood, CommandGood, BranchesGood, ClausesGood, ForWordsGood, KindGood, WorkGood, AllWorkGood, EnvironmentGood}
 use Rattle.sh_quote.proofs.EffectLemmas.{set_good, unwatched_fits, function_good, copied_good, StateGood, expands, StartsGood, EffectGood, goes_good, ends_good, expanded_good, either_good, unless_good}
 use Rattle.sh_quote.proofs.GoodLemmas.{command_good}

@@ -23,7 +23,7 @@ use Rattle.sh_tree.specs.standard.program.Trees as trees
 use Rattle.sh_tree.specs.standard.program.Words.{assignment_in, words_in}
 use Rattle.sh_tree.proofs.ProgramForms.{operands_of_elements}
 use Rattle.sh_tree.proofs.ProgramRules as rules
-use Rattle.sh_table.specs.Profile.{Static}
+use Rattle.sh_runs.specs.Profile.{Static}
 use Rattle.sh_quote.specs.Places.{told_at, word_places, parts_places}
 use Rattle.sh_quote.specs.Steady.{for_words}
 use Rattle.sh_quote.specs.Elements.{split}

@@ -20,7 +20,7 @@ use Rattle.sh_tree.specs.standard.program.Syntax.{Text}
 use Rattle.sh_tree.specs.standard.program.Words as words
 use Rattle.sh_tree.specs.standard.program.Words.{before_word, word_text, word_has, is_plainly, static_of}
 use Rattle.sh_tree.proofs.ProgramWords.{text_of_parts, wildcard_of_parts, bracket_of_parts, lone_bracket_of_parts}
-use Rattle.sh_table.specs.Quoting.{is_steady}
+use Rattle.sh_runs.specs.Quoting.{is_steady}
 use Rattle.sh_quote.specs.Steady.{steady_value}
 use Rattle.sh_quote.specs.Values.{separates_numbers, steady_static, part_steady, value_is_bracket, value_is_pattern}
 

@@ -18,24 +18,24 @@ use Rattle.sh_tree.specs.standard.program.Syntax.{Text}
 use Rattle.sh_tree.specs.standard.program.Trees as trees
 use Rattle.sh_tree.specs.standard.program.Words.{static_of, assignment_in, words_in, operands_in, assignments_in}
 use Rattle.sh_tree.proofs.ProgramRules as rules
-use Rattle.sh_table.specs.Calls.{Table, table_of, texts_with, text_at, static_at}
-use Rattle.sh_table.specs.standard.Kinds.{kind_of, is_declaration}
-use Rattle.sh_table.specs.Numbering.{is_numbered}
-use Rattle.sh_table.specs.Profile.{Static}
-use Rattle.sh_table.specs.Quoting.{is_ifs, is_at, are_quotations, word_mentions, word_assigns}
-use Rattle.sh_table.specs.Sites.{Site, site_of, form_of, statics}
-use Rattle.sh_table.specs.Surroundings.{Surroundings, Located, outside, items_located}
+use Rattle.sh_runs.specs.Calls.{Table, table_of, texts_with, text_at, static_at}
+use Rattle.sh_runs.specs.standard.Kinds.{kind_of, is_declaration}
+use Rattle.sh_runs.specs.Numbering.{is_numbered}
+use Rattle.sh_runs.specs.Profile.{Static}
+use Rattle.sh_runs.specs.Quoting.{is_ifs, is_at, are_quotations, word_mentions, word_assigns}
+use Rattle.sh_runs.specs.Sites.{Site, site_of, form_of, statics}
+use Rattle.sh_runs.specs.Surroundings.{Surroundings, Located, outside, items_located}
 use Rattle.sh_table.specs.Walks.{located}
 use Rattle.sh_table.specs.WordTexts.{text_in}
-use Rattle.sh_table.specs.declared.kind.Kind as meaning
-use Rattle.sh_table.specs.declared.kind.Kind.TheVariants as kinds
+use Rattle.sh_runs.specs.declared.kind.Kind as meaning
+use Rattle.sh_runs.specs.declared.kind.Kind.TheVariants as kinds
 use Rattle.sh_table.specs.declared.site.Around.{Around}
 use Rattle.sh_table.specs.declared.word_text.WordText.{WordText}
-use Rattle.sh_table.specs.standard.runs.Operands as o
-use Rattle.sh_table.specs.standard.runs.Operands.{ReadOption, Complete, TakesNext, Other, read_option, is_dashed, ends_options}
+use Rattle.sh_runs.specs.standard.runs.Operands as o
+use Rattle.sh_runs.specs.standard.runs.Operands.{ReadOption, Complete, TakesNext, Other, read_option, is_dashed, ends_options}
 use Rattle.sh_table.proofs.NumberLemmas.{Tells, numbered_tells}
 use Rattle.sh_domain.specs.Operands as facts
-use Rattle.sh_domain.specs.Sights.{go_on, read_operands, takes_next}
+use Rattle.sh_runs.specs.ReadOptions.{go_on, read_operands, takes_next}
 use Rattle.sh_quote.specs.Places.{word_places, split_words, split_operands, unquoted}
 use Rattle.sh_quote.specs.Steady.{redirect_words, kind_words, steady_assignment, is_static, steady_declared, steady_operand, steady_getopts, steady_operands, steady_words, steady_kind, steady_command, steady}
 use Rattle.sh_quote.specs.Operands.{names_other, all_read, names_ifs, reads_ifs, is_ifs_static}

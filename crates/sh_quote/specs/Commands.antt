@@ -16,14 +16,14 @@ use Rattle.sh_tree.specs.standard.program.Syntax as p
 use Rattle.sh_tree.specs.standard.program.Syntax.{Text}
 use Rattle.sh_tree.specs.standard.program.Trees as trees
 use Rattle.sh_tree.specs.standard.program.Words.{assignment_in, words_in, operands_in, assignments_in}
-use Rattle.sh_table.specs.Calls.{Table, texts_with}
-use Rattle.sh_table.specs.standard.Kinds.{kind_of}
-use Rattle.sh_table.specs.Profile.{Static}
-use Rattle.sh_table.specs.Quoting.{is_ifs, is_at, are_quotations, word_assigns, word_mentions}
-use Rattle.sh_table.specs.Surroundings.{Located}
-use Rattle.sh_table.specs.declared.kind.Kind as meaning
-use Rattle.sh_table.specs.declared.kind.Kind.TheVariants as kind
-use Rattle.sh_table.specs.standard.runs.Steps.{opened}
+use Rattle.sh_runs.specs.Calls.{Table, texts_with}
+use Rattle.sh_runs.specs.standard.Kinds.{kind_of}
+use Rattle.sh_runs.specs.Profile.{Static}
+use Rattle.sh_runs.specs.Quoting.{is_ifs, is_at, are_quotations, word_assigns, word_mentions}
+use Rattle.sh_runs.specs.Surroundings.{Located}
+use Rattle.sh_runs.specs.declared.kind.Kind as meaning
+use Rattle.sh_runs.specs.declared.kind.Kind.TheVariants as kind
+use Rattle.sh_runs.specs.standard.runs.Steps.{opened}
 use Rattle.sh_quote.specs.Steady.{steady_assignment, steady_text, redirect_words, kind_words}
 use Rattle.sh_quote.specs.Operands.{names_other, all_read, operands_steady}
 

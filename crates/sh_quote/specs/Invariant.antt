@@ -7,18 +7,18 @@ use Rattle.sh_tree.specs.standard.program.Syntax as p
 use Rattle.sh_tree.specs.standard.program.Syntax.{Text}
 use Rattle.sh_tree.specs.standard.program.Words.{Assignments, operands_in, redirects_in, assignments_in, static_of, assignment_in, words_in}
 use Rattle.sh_tree.specs.declared.known.KnownName.TheVariants as known
-use Rattle.sh_table.specs.declared.kind.Kind.{Kind}
-use Rattle.sh_table.specs.declared.kind.Kind.TheVariants as kind
-use Rattle.sh_table.specs.Counts.{some_gives_field}
-use Rattle.sh_table.specs.standard.Kinds.{kind_of, is_declaration}
-use Rattle.sh_table.specs.Profile.{refused_at}
-use Rattle.sh_table.specs.Quoting.{word_assigns, is_ifs, is_steady}
-use Rattle.sh_table.specs.Rows.{text_gives_field, command_gives_fields}
-use Rattle.sh_table.specs.Surroundings.{Surroundings, Located, items_located, links_located, pipeline_located, command_located, branches_located, otherwise_located, word_located}
-use Rattle.sh_table.specs.standard.runs.Environment.{Environment}
-use Rattle.sh_table.specs.standard.runs.Operands as o
-use Rattle.sh_table.specs.standard.runs.Steps.{opened}
-use Rattle.sh_table.specs.standard.runs.Work.{Work, Items, Links, Pipeline, Negation, Command, Words, Prepare, Utility, Call, Return, Compound, If, Then, Test, Again, ForWords, ForFields, Clauses, Patterns, Fall, Saved}
+use Rattle.sh_runs.specs.declared.kind.Kind.{Kind}
+use Rattle.sh_runs.specs.declared.kind.Kind.TheVariants as kind
+use Rattle.sh_runs.specs.Counts.{some_gives_field}
+use Rattle.sh_runs.specs.standard.Kinds.{kind_of, is_declaration}
+use Rattle.sh_runs.specs.Profile.{refused_at}
+use Rattle.sh_runs.specs.Quoting.{word_assigns, is_ifs, is_steady}
+use Rattle.sh_runs.specs.Rows.{text_gives_field, command_gives_fields}
+use Rattle.sh_runs.specs.Surroundings.{Surroundings, Located, items_located, links_located, pipeline_located, command_located, branches_located, otherwise_located, word_located}
+use Rattle.sh_runs.specs.standard.runs.Environment.{Environment}
+use Rattle.sh_runs.specs.standard.runs.Operands as o
+use Rattle.sh_runs.specs.standard.runs.Steps.{opened}
+use Rattle.sh_runs.specs.standard.runs.Work.{Work, Items, Links, Pipeline, Negation, Command, Words, Prepare, Utility, Call, Return, Compound, If, Then, Test, Again, ForWords, ForFields, Clauses, Patterns, Fall, Saved}
 use Rattle.sh_domain.specs.Operands.{statics}
 use Rattle.sh_quote.specs.Places.{word_places, split_words}
 use Rattle.sh_quote.specs.Steady.{is_static, steady_command, steady_assignment, steady_declared, steady_operand, steady_getopts}

@@ -14,11 +14,11 @@ use Rattle.sh_tree.specs.standard.language.Parts.{is_quotation}
 use Rattle.sh_tree.specs.Lists.{parts_from}
 use Rattle.sh_tree.specs.standard.program.Syntax.{Text}
 use Rattle.sh_tree.specs.standard.program.Words.{before_word}
-use Rattle.sh_table.specs.Profile.{Static}
-use Rattle.sh_table.specs.Quoting.{is_at, is_ifs, word_mentions}
-use Rattle.sh_table.specs.declared.kind.Kind.{Kind}
-use Rattle.sh_table.specs.declared.kind.Kind.TheVariants as kind
-use Rattle.sh_domain.specs.Sights.{read_operands}
+use Rattle.sh_runs.specs.Profile.{Static}
+use Rattle.sh_runs.specs.Quoting.{is_at, is_ifs, word_mentions}
+use Rattle.sh_runs.specs.declared.kind.Kind.{Kind}
+use Rattle.sh_runs.specs.declared.kind.Kind.TheVariants as kind
+use Rattle.sh_runs.specs.ReadOptions.{read_operands}
 use Rattle.sh_quote.specs.Steady.{steady_value, steady_text}
 
 -- `export` and `readonly`

@@ -6,7 +6,7 @@ use Rattle.sh_tree.specs.declared.tree.ParameterOperator.{ParameterOperator}
 use Rattle.sh_tree.specs.declared.tree.Part.{Part}
 use Rattle.sh_tree.specs.standard.program.Syntax as p
 use Rattle.sh_tree.specs.standard.program.Trees as trees
-use Rattle.sh_table.specs.Quoting.{part_begins_pattern, word_begins_pattern}
+use Rattle.sh_runs.specs.Quoting.{part_begins_pattern, word_begins_pattern}
 
 -- in the word after `-`, `=`, `?` or `+`
 unfoldable pub operator_begins_pattern : p.Operator → Bool

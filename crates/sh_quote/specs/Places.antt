@@ -7,9 +7,9 @@ use Rattle.sh_tree.specs.declared.place.Code.TheVariants.{Q1}
 use Rattle.sh_tree.specs.standard.program.Syntax as p
 use Rattle.sh_tree.specs.standard.program.Syntax.{Word}
 use Rattle.sh_tree.specs.standard.program.Words.{static_of, assignment_in, words_in, operands_in}
-use Rattle.sh_table.specs.standard.Kinds.{kind_of, is_declaration}
-use Rattle.sh_table.specs.Surroundings.{outside, items_located}
-use Rattle.sh_table.specs.Quoting.{gives_number, is_quoted_alternative, word_begins_pattern}
+use Rattle.sh_runs.specs.standard.Kinds.{kind_of, is_declaration}
+use Rattle.sh_runs.specs.Surroundings.{outside, items_located}
+use Rattle.sh_runs.specs.Quoting.{gives_number, is_quoted_alternative, word_begins_pattern}
 use Rattle.sh_quote.specs.Steady.{for_words, steady}
 
 unfoldable pub told_at : Bool → ℕ → List Place

@@ -11,7 +11,7 @@ use Rattle.sh_tree.specs.declared.tree.Subject.{Subject}
 use Rattle.sh_tree.specs.declared.tree.Subject.TheVariants as subject
 use Rattle.sh_tree.specs.standard.language.Parts.{is_quotation}
 use Rattle.sh_tree.specs.standard.program.Trees as trees
-use Rattle.sh_table.specs.Quoting as quoting
+use Rattle.sh_runs.specs.Quoting as quoting
 use Rattle.sh_quote.specs.Places as places
 
 unfoldable pub are_some_quotes : List Part → Bool

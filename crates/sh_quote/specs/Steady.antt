@@ -6,13 +6,13 @@ use Rattle.std.specs.Str.{bytes_eq}
 use Rattle.sh_tree.specs.standard.program.Syntax as p
 use Rattle.sh_tree.specs.standard.program.Syntax.{Text, Word}
 use Rattle.sh_tree.specs.standard.program.Words.{static_of, assignment_in, words_in, operands_in, redirects_in, assignments_in}
-use Rattle.sh_table.specs.standard.Kinds.{kind_of}
-use Rattle.sh_table.specs.Surroundings.{outside, items_located}
-use Rattle.sh_table.specs.Quoting.{are_quotations, word_mentions, word_assigns, is_at, is_ifs, is_steady}
-use Rattle.sh_table.specs.declared.kind.Kind.{Kind}
+use Rattle.sh_runs.specs.standard.Kinds.{kind_of}
+use Rattle.sh_runs.specs.Surroundings.{outside, items_located}
+use Rattle.sh_runs.specs.Quoting.{are_quotations, word_mentions, word_assigns, is_at, is_ifs, is_steady}
+use Rattle.sh_runs.specs.declared.kind.Kind.{Kind}
 use Rattle.sh_tree.specs.declared.known.KnownName.TheVariants as known
-use Rattle.sh_table.specs.declared.kind.Kind.TheVariants as kind
-use Rattle.sh_table.specs.standard.runs.Steps.{opened}
+use Rattle.sh_runs.specs.declared.kind.Kind.TheVariants as kind
+use Rattle.sh_runs.specs.standard.runs.Steps.{opened}
 use Rattle.sh_domain.specs.Operands.{read_names}
 
 -- The words of a command

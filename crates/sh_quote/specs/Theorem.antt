@@ -6,10 +6,10 @@ use Rattle.sh_tree.specs.declared.tree.Script.{Script}
 use Rattle.sh_tree.specs.standard.language.Reading.{Reads}
 use Rattle.sh_tree.specs.standard.program.Syntax.{Text, Items}
 use Rattle.sh_tree.specs.standard.program.Trees.{script_of}
-use Rattle.sh_table.specs.Admitted.{is_admitted}
-use Rattle.sh_table.specs.Rows.{gives_fields}
-use Rattle.sh_table.specs.standard.runs.Environment.{Environment, Frame}
-use Rattle.sh_table.specs.standard.runs.Worlds.{World, Move, run, has_unset_event, has_split_event, start_world, IsStart}
+use Rattle.sh_runs.specs.Admitted.{is_admitted}
+use Rattle.sh_runs.specs.Rows.{gives_fields}
+use Rattle.sh_runs.specs.standard.runs.Environment.{Environment, Frame}
+use Rattle.sh_runs.specs.standard.runs.Worlds.{World, Move, run, has_unset_event, has_split_event, start_world, IsStart}
 use Rattle.sh_quote.specs.Places.{unquoted}
 
 -- Let a program be admitted, its words give fields as words that are read do, and no place be

@@ -13,10 +13,10 @@ use Rattle.sh_tree.specs.Lists.{parts_from}
 use Rattle.sh_tree.specs.standard.program.Syntax as p
 use Rattle.sh_tree.specs.standard.program.Trees as trees
 use Rattle.sh_tree.specs.standard.program.Words.{assignment_in, words_in, operands_in}
-use Rattle.sh_table.specs.Calls.{Table, text_at}
-use Rattle.sh_table.specs.standard.Kinds.{kind_of, is_declaration}
-use Rattle.sh_table.specs.Profile.{Static}
-use Rattle.sh_table.specs.Surroundings.{Located}
+use Rattle.sh_runs.specs.Calls.{Table, text_at}
+use Rattle.sh_runs.specs.standard.Kinds.{kind_of, is_declaration}
+use Rattle.sh_runs.specs.Profile.{Static}
+use Rattle.sh_runs.specs.Surroundings.{Located}
 use Rattle.sh_quote.specs.Places.{word_places}
 use Rattle.sh_quote.specs.Steady.{for_words}
 use Rattle.sh_quote.specs.Quotations as quotations

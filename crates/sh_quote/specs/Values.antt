@@ -7,7 +7,7 @@ use Rattle.sh_tree.specs.declared.tree.Part.{Part}
 use Rattle.sh_tree.specs.standard.Words.{is_wildcard, has_wildcard, has_bracket, is_bracket, part_text}
 use Rattle.sh_tree.specs.standard.language.Bytes.{is_digit}
 use Rattle.sh_tree.specs.standard.program.Syntax.{Text}
-use Rattle.sh_table.specs.Quoting.{is_steady}
+use Rattle.sh_runs.specs.Quoting.{is_steady}
 
 abbrev pub separates_numbers : ℕ → Bool
 separates_numbers c = is_digit c || c == 45

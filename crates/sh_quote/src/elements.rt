@@ -21,7 +21,7 @@ pub fn split_word(elements: &[Element]) -> Option<(&Word, &[Element])>
     None
 }
 
-#[tactic(auto, unfolding(crate::specs::Unquoted::part_form, sh_table::specs::standard::runs::Operands::definition_in))]
+#[tactic(auto, unfolding(crate::specs::Unquoted::part_form, sh_runs::specs::standard::runs::Operands::definition_in))]
 fn part_begins_assignment(part: &Part, script: &[u8]) -> bool
     ensures { result ≡ part_form script.now part.now }
 {

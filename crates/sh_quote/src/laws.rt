@@ -1,10 +1,10 @@
 //! What holds of the rules of quoting that `specs/` defines, and what they are good for in the runs
-//! that `sh_table` defines.
+//! that `sh_runs` defines.
 ghost use Rattle.sh_quote.specs.Once.{ReadUnquotedStandOnce, UnquotedStandOnce};
 ghost use Rattle.sh_quote.specs.examples.Quotes.{QuotesAsExpected};
 ghost use Rattle.sh_quote.specs.Theorem.{QuotingSuffices, QuotingSufficesForScripts};
 
-pub use sh_table::laws::fields;
+pub use sh_runs::laws::fields;
 
 /// In known scripts the known places are reported.
 pub fn examples()

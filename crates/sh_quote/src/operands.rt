@@ -10,8 +10,7 @@ ghost use Rattle.sh_quote.specs.Operands as spec;
 use crate::elements::split_word;
 use crate::quotations::are_quotations;
 use crate::values::{is_steady, value_is_steady};
-use sh_domain::read_operands;
-use sh_operands::{Look, is_ifs, word_has};
+use sh_operands::{Look, is_ifs, read_operands, word_has};
 use sh_table::{Kind, WordText, are_static, definition_in};
 use sh_tree::{Element, KnownName, Part, Word, command_name};
 
@@ -37,7 +36,7 @@ fn text_is_steady(text: Option<&[u8]>) -> bool
 }
 
 // An operand with these plain bytes at its front.
-#[tactic(auto, unfolding(crate::specs::Operands::front_steady, sh_table::specs::standard::runs::Operands::definition_in))]
+#[tactic(auto, unfolding(crate::specs::Operands::front_steady, sh_runs::specs::standard::runs::Operands::definition_in))]
 fn front_is_steady(front: &[u8], rest: &[Part], text: Option<&[u8]>, script: &[u8]) -> bool
     ensures { result ≡ spec.front_steady script.now front.now rest.now (option_map (λ t. t.now) text.entry) }
 {

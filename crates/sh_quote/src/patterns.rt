@@ -1,12 +1,12 @@
 //! Words that are patterns for pathname expansion (XCU 2.6.6, 2.14).
 ghost use Rattle.std.specs.Prelude.{◌≡◌};
 ghost use Rattle.std.specs.List.{list_any};
-ghost use Rattle.sh_table.specs.standard.runs.Fields.{begins_pattern};
+ghost use Rattle.sh_runs.specs.standard.runs.Fields.{begins_pattern};
 ghost use Rattle.sh_quote.specs.Patterns as spec;
 
 use sh_tree::{ParameterOperator, Part, Word};
 
-#[tactic(auto, unfolding(sh_table::specs::standard::runs::Fields::begins_pattern))]
+#[tactic(auto, unfolding(sh_runs::specs::standard::runs::Fields::begins_pattern))]
 fn begins_pattern(byte: u8) -> bool
     ensures { result ≡ begins_pattern byte }
 {

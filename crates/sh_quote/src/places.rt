@@ -1,8 +1,8 @@
 //! The places where the rules of quoting are broken.
 ghost use Rattle.std.specs.Prelude.{◌≡◌, ◌<◌, true, length, IfOk, IfErr};
 ghost use Rattle.sh_tree.specs.standard.program.Trees.{script_of};
-ghost use Rattle.sh_table.specs.Calls as table;
-ghost use Rattle.sh_table.specs.Numbering.{is_numbered};
+ghost use Rattle.sh_runs.specs.Calls as table;
+ghost use Rattle.sh_runs.specs.Numbering.{is_numbered};
 ghost use Rattle.sh_quote.specs.Places as definition;
 ghost use Rattle.sh_quote.specs.Unquoted as spec;
 

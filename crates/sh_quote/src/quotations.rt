@@ -37,7 +37,7 @@ fn is_quoted_alternative(operator: &ParameterOperator) -> bool
     }
 }
 
-#[tactic(auto, unfolding(sh_table::specs::Quoting::is_numeric))]
+#[tactic(auto, unfolding(sh_runs::specs::Quoting::is_numeric))]
 fn is_numeric(special: Special) -> bool
     ensures { result ≡ spec.is_numeric special }
 {

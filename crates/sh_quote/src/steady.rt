@@ -1,8 +1,8 @@
 //! Whether IFS separates numbers anywhere in a script.
 ghost use Rattle.std.specs.Prelude.{◌≡◌, true, ◌&&◌, Option};
 ghost use Rattle.sh_tree.specs.standard.program.Trees.{script_of};
-ghost use Rattle.sh_table.specs.Calls as table;
-ghost use Rattle.sh_table.specs.Numbering.{is_numbered};
+ghost use Rattle.sh_runs.specs.Calls as table;
+ghost use Rattle.sh_runs.specs.Numbering.{is_numbered};
 ghost use Rattle.sh_quote.specs.Steady as definition;
 ghost use Rattle.sh_quote.specs.Commands as spec;
 

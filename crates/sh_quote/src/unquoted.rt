@@ -2,7 +2,7 @@
 ghost use Rattle.std.specs.Prelude.{◌≡◌, ◌++◌, ◌<◌, ℕ, List, length, flat_map, option_map, Some, OnOk, OnErr};
 ghost use Rattle.sh_tree.specs.standard.Words.{words_of};
 ghost use Rattle.sh_tree.specs.declared.tree.Command.{out-Command};
-ghost use Rattle.sh_table.specs.standard.Kinds as kinds;
+ghost use Rattle.sh_runs.specs.standard.Kinds as kinds;
 ghost use Rattle.sh_quote.specs.Unquoted as spec;
 
 use crate::elements::{begins_assignment, split_word};
@@ -121,7 +121,7 @@ fn add_operands(
 }
 
 /// Whether the utility is a declaration utility (XCU 2.9.1.1).
-#[tactic(auto, unfolding(sh_table::specs::standard::Kinds::is_declaration))]
+#[tactic(auto, unfolding(sh_runs::specs::standard::Kinds::is_declaration))]
 fn is_declaration(kind: Meaning) -> bool
     ensures { result ≡ kinds.is_declaration kind }
 {

@@ -4,7 +4,7 @@ ghost use Rattle.std.specs.List.{list_any, list_all};
 ghost use Rattle.sh_tree.specs.standard.Words as words;
 ghost use Rattle.sh_tree.specs.Lists.{parts_from};
 ghost use Rattle.sh_tree.specs.standard.program.Words.{before_word};
-ghost use Rattle.sh_table.specs.Quoting as quoting;
+ghost use Rattle.sh_runs.specs.Quoting as quoting;
 ghost use Rattle.sh_quote.specs.Steady as steady;
 ghost use Rattle.sh_quote.specs.Values as spec;
 
@@ -27,7 +27,7 @@ fn has_separator(text: &[u8]) -> bool
 }
 
 /// Whether no number is split if this is the value of IFS.
-#[tactic(auto, unfolding(sh_table::specs::Quoting::is_steady))]
+#[tactic(auto, unfolding(sh_runs::specs::Quoting::is_steady))]
 pub fn is_steady(text: &[u8]) -> bool
     ensures { result ≡ quoting.is_steady (Some text.now) }
 {

@@ -1,3 +1,4 @@
+pub mod CertificateLemmas
 pub mod LintLemmas
 pub mod PrintLemmas
 pub mod RunLemmas

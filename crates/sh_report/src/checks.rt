@@ -6,9 +6,9 @@ ghost use Rattle.sh_accept.specs.Answers.{Checks};
 ghost use Rattle.sh_accept.specs.Theorem.{IsSafe};
 ghost use Rattle.sh_judged.specs.Prepared.{IsPrepared};
 
+use crate::claimed::certified;
 use sh_answers::Verdict;
 use sh_domain::Policy;
-use sh_flow::certified;
 use sh_judged::{Prepared, judged, prepare};
 use sh_tree::Refusal;
 use std::alloc::Global;

@@ -3,13 +3,13 @@ use Rattle.std.proofs.Common.{◌≡◌, Bool, true, false, not, ◌&&◌, if◌
 use Rattle.std.specs.List.{position_from}
 use Rattle.std.specs.Str.{bytes_eq}
 use Rattle.sh_tree.specs.standard.program.Syntax.{Text}
-use Rattle.sh_table.specs.Calls.{called, static_at}
-use Rattle.sh_table.specs.standard.Kinds as kinds
-use Rattle.sh_table.specs.standard.Kinds.{kind_of}
-use Rattle.sh_table.specs.Profile.{Static}
-use Rattle.sh_table.specs.standard.runs.Environment.{is_one_of}
+use Rattle.sh_runs.specs.Calls.{called, static_at}
+use Rattle.sh_runs.specs.standard.Kinds as kinds
+use Rattle.sh_runs.specs.standard.Kinds.{kind_of}
+use Rattle.sh_runs.specs.Profile.{Static}
+use Rattle.sh_runs.specs.standard.runs.Environment.{is_one_of}
 use Rattle.sh_domain.specs.Table.{is_special}
-use Rattle.sh_table.proofs.FunctionLemmas.{is_placed}
+use Rattle.sh_runs.proofs.PositionLemmas.{is_placed}
 use Rattle.sh_gains.proofs.KindLemmas.{special_same}
 use Rattle.sh_rules.specs.TextTells.{calls_by}
 

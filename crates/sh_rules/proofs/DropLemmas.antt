@@ -4,7 +4,7 @@ use Rattle.std.specs.List.{list_all}
 use Rattle.std.proofs.lemmas.Option.{slice_get_within, slice_get-get_or}
 use Rattle.std.proofs.lemmas.Slice.Eq.{bytes_eq-Decides}
 use Rattle.sh_tree.specs.standard.program.Syntax.{Text}
-use Rattle.sh_table.specs.standard.runs.Environment.{is_one_of}
+use Rattle.sh_runs.specs.standard.runs.Environment.{is_one_of}
 use Rattle.sh_domain.specs.declared.certificate.FunctionEntry.{FunctionEntry}
 use Rattle.sh_domain.specs.declared.rows.RowId.{RowId}
 use Rattle.sh_domain.specs.Certificates.{drops_of, in_byte_order, names_at}

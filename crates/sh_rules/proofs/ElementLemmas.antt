@@ -15,7 +15,7 @@ use Rattle.sh_tree.specs.standard.program.Syntax.{Text}
 use Rattle.sh_tree.specs.standard.program.Trees as trees
 use Rattle.sh_tree.specs.standard.program.Words.{assignments_in, operands_in, redirects_in}
 use Rattle.sh_tree.proofs.ProgramRules as rules
-use Rattle.sh_table.specs.standard.runs.Environment.{is_one_of}
+use Rattle.sh_runs.specs.standard.runs.Environment.{is_one_of}
 use Rattle.sh_domain.specs.declared.knowledge.Knowledge.{Knowledge}
 use Rattle.sh_domain.specs.Facts.{Facts}
 use Rattle.sh_domain.specs.Gains.{no_gains, named, word_gains, words_gains, redirect_gains, redirects_gains}

@@ -1,9 +1,9 @@
 -- Of utilities that leave what is known after their words, and do not jump.
 use Rattle.std.proofs.Common.{◌≡◌, ℕ, true, true≢false, List, refl, sym}
 use Rattle.sh_tree.specs.standard.program.Syntax as p
-use Rattle.sh_table.specs.Profile.{Static}
-use Rattle.sh_table.specs.declared.kind.Kind.{Kind}
-use Rattle.sh_table.specs.declared.kind.Kind.TheVariants as kind
+use Rattle.sh_runs.specs.Profile.{Static}
+use Rattle.sh_runs.specs.declared.kind.Kind.{Kind}
+use Rattle.sh_runs.specs.declared.kind.Kind.TheVariants as kind
 use Rattle.sh_domain.specs.declared.rule.FlowRule.TheVariants.{F4}
 use Rattle.sh_domain.specs.Entries.{Around}
 use Rattle.sh_rules.specs.Asking.{Asking}

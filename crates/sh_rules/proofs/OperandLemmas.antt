@@ -6,15 +6,15 @@ use Rattle.std.proofs.lemmas.List.Folds.{fold-map, list_all-map}
 use Rattle.sh_tree.specs.standard.language.Bytes.{is_first, is_name}
 use Rattle.sh_tree.specs.standard.program.Syntax.{Text, Word}
 use Rattle.sh_tree.specs.standard.program.Words.{static_of}
-use Rattle.sh_table.specs.Profile.{Static}
+use Rattle.sh_runs.specs.Profile.{Static}
 use Rattle.sh_table.specs.WordTexts.{text_in}
 use Rattle.sh_table.specs.declared.word_text.WordText.{WordText}
-use Rattle.sh_table.specs.standard.runs.Numbers.{number_in}
-use Rattle.sh_table.specs.standard.runs.Operands.{Removal, OfVariables, OfFunctions, OfEither, OfAny, ReadOption, Complete, TakesNext, Other, read_option, unset_from, unset_operands, ends_options, is_dashed, is_set_option, ends_in_o, has_command}
-use Rattle.sh_table.specs.standard.runs.Operands as o
+use Rattle.sh_runs.specs.standard.runs.Numbers.{number_in}
+use Rattle.sh_runs.specs.standard.runs.Operands.{Removal, OfVariables, OfFunctions, OfEither, OfAny, ReadOption, Complete, TakesNext, Other, read_option, unset_from, unset_operands, ends_options, is_dashed, is_set_option, ends_in_o, has_command}
+use Rattle.sh_runs.specs.standard.runs.Operands as o
 use Rattle.sh_domain.specs.Facts.{Facts, NotReached, Known}
 use Rattle.sh_domain.specs.Operands.{Names, removed, status, statics, words_from, unset_names, read_names, getopts_names, positional_words, first_number, return_status, runs_command}
-use Rattle.sh_domain.specs.Sights.{go_on, read_operands, takes_next}
+use Rattle.sh_runs.specs.ReadOptions.{go_on, read_operands, takes_next}
 use Rattle.sh_domain.specs.Views.{Lose, step, where_known}
 use Rattle.sh_domain.proofs.KnownNameLemmas.{lost_one_by_one}
 use Rattle.sh_domain.proofs.MeetLemmas.{known_same}

@@ -12,9 +12,9 @@ use Rattle.sh_tree.specs.standard.program.Syntax.{Text}
 use Rattle.sh_tree.specs.standard.program.Trees as trees
 use Rattle.sh_tree.specs.standard.program.Words.{assignments_in}
 use Rattle.sh_tree.proofs.ProgramRules as rules
-use Rattle.sh_table.specs.Calls.{functions_of, table_of}
-use Rattle.sh_table.specs.Surroundings.{outside}
-use Rattle.sh_table.specs.standard.runs.Environment.{is_one_of}
+use Rattle.sh_runs.specs.Calls.{functions_of, table_of}
+use Rattle.sh_runs.specs.Surroundings.{outside}
+use Rattle.sh_runs.specs.standard.runs.Environment.{is_one_of}
 use Rattle.sh_domain.specs.Sights.{Sight, sight, in_row, in_target, in_redirect, in_element, in_kind, in_command, operand_sights}
 use Rattle.sh_domain.specs.Table.{prefixes}
 use Rattle.sh_domain.proofs.EnteredWalk.{script_walked}

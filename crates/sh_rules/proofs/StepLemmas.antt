@@ -7,8 +7,8 @@ use Rattle.sh_tree.specs.declared.tree.Element.{Element}
 use Rattle.sh_tree.specs.Lists.{elements_from}
 use Rattle.sh_tree.specs.standard.program.Syntax as p
 use Rattle.sh_tree.specs.standard.program.Syntax.{Text}
-use Rattle.sh_table.specs.Counts as counts'
-use Rattle.sh_table.specs.Counts.{Parameters, One, Nothing, count_of}
+use Rattle.sh_runs.specs.Counts as counts'
+use Rattle.sh_runs.specs.Counts.{Parameters, One, Nothing, count_of}
 use Rattle.sh_operands.specs.declared.counts.Total as code
 use Rattle.sh_operands.specs.Fields.{counted, counted_word, no_fields}
 use Rattle.sh_operands.specs.Numerals.{most, capped}

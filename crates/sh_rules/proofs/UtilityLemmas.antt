@@ -20,10 +20,10 @@ use Rattle.sh_tree.specs.standard.program.Syntax.{Text}
 use Rattle.sh_tree.specs.standard.program.Trees as trees
 use Rattle.sh_tree.specs.standard.program.Words.{assignment_in, operands_in, words_in}
 use Rattle.sh_tree.proofs.ProgramRules as rules
-use Rattle.sh_table.specs.Profile.{Static}
+use Rattle.sh_runs.specs.Profile.{Static}
 use Rattle.sh_table.specs.WordTexts.{text_in}
 use Rattle.sh_table.specs.declared.word_text.WordText.{WordText}
-use Rattle.sh_table.specs.standard.runs.Environment.{is_one_of}
+use Rattle.sh_runs.specs.standard.runs.Environment.{is_one_of}
 use Rattle.sh_domain.specs.declared.number_set.NumberSet.{NumberSet}
 use Rattle.sh_domain.specs.Facts.{Facts, NotReached, Known, meet}
 use Rattle.sh_domain.specs.Gains.{Gains, named, with_gains}
@@ -42,7 +42,7 @@ use Rattle.sh_rules.specs.Elements.{declared_gained, front_name, declared_name, 
 use Rattle.sh_rules.specs.Losses.{ArePrefixes, name_gained, if_wanted, texts_with, is_free, unless_prefixed, free_gained, free_names}
 use Rattle.sh_rules.specs.SimpleBounds.{stepped, left}
 use Rattle.sh_rules.specs.TextBounds.{behind_name, counted, words_set, set_by, shifted_by}
-use Rattle.sh_domain.specs.Sights.{read_operands}
+use Rattle.sh_runs.specs.ReadOptions.{read_operands}
 use Rattle.sh_rules.specs.Texts.{names_behind, read_by, and_optind, positional_by}
 use Rattle.sh_rules.proofs.GainLemmas.{none_gained, other_gained, both_gained}
 use Rattle.sh_rules.proofs.OperandLemmas.{kept_fold, read_static, read_computed}

@@ -16,8 +16,8 @@ use Rattle.sh_tree.specs.standard.program.Syntax as p
 use Rattle.sh_tree.specs.standard.program.Syntax.{Text}
 use Rattle.sh_tree.specs.standard.program.Trees as trees
 use Rattle.sh_tree.proofs.ProgramRules as rules
-use Rattle.sh_table.specs.Calls.{callee_at, text_at, texts_with}
-use Rattle.sh_table.specs.Profile.{Static}
+use Rattle.sh_runs.specs.Calls.{callee_at, text_at, texts_with}
+use Rattle.sh_runs.specs.Profile.{Static}
 use Rattle.sh_table.specs.WordTexts.{text_in}
 use Rattle.sh_table.specs.declared.word_text.WordText.{WordText}
 use Rattle.sh_domain.specs.declared.knowledge.Knowledge.{Knowledge}

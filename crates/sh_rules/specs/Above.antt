@@ -7,8 +7,8 @@ use Rattle.sh_tree.specs.declared.limits.TheConstants.{MAX_COMMANDS}
 use Rattle.sh_tree.specs.declared.tree.Script.{Script}
 use Rattle.sh_tree.specs.standard.program.Syntax.{Text}
 use Rattle.sh_tree.specs.standard.program.Trees.{script_of}
-use Rattle.sh_table.specs.Calls.{table_of}
-use Rattle.sh_table.specs.Numbering.{is_numbered}
+use Rattle.sh_runs.specs.Calls.{table_of}
+use Rattle.sh_runs.specs.Numbering.{is_numbered}
 use Rattle.sh_domain.specs.Entries.{Entered, script_entered}
 use Rattle.sh_domain.specs.Facts.{Facts, facts}
 use Rattle.sh_domain.specs.Faults.{Fault, broken}

@@ -12,7 +12,7 @@ use Rattle.sh_tree.specs.Lists.{element_from}
 use Rattle.sh_tree.specs.standard.program.Syntax as p
 use Rattle.sh_tree.specs.standard.program.Syntax.{Text}
 use Rattle.sh_tree.specs.standard.program.Words.{assignments_in, redirects_in}
-use Rattle.sh_table.specs.standard.runs.Environment.{is_one_of}
+use Rattle.sh_runs.specs.standard.runs.Environment.{is_one_of}
 use Rattle.sh_domain.specs.Facts.{Facts}
 use Rattle.sh_domain.specs.Gains.{named, redirects_gains}
 use Rattle.sh_domain.specs.Operands.{declared_names}

@@ -4,10 +4,10 @@ use Rattle.std.specs.Prelude.{◌≡◌, Bool, true, false, not, filter, if◌th
 use Rattle.sh_tree.specs.standard.language.Bytes.{is_name}
 use Rattle.sh_tree.specs.standard.program.Syntax as p
 use Rattle.sh_tree.specs.standard.program.Syntax.{Text}
-use Rattle.sh_table.specs.Profile.{Static}
+use Rattle.sh_runs.specs.Profile.{Static}
 use Rattle.sh_table.specs.WordTexts.{text_in}
 use Rattle.sh_table.specs.declared.word_text.WordText.{WordText}
-use Rattle.sh_table.specs.standard.runs.Environment.{is_one_of}
+use Rattle.sh_runs.specs.standard.runs.Environment.{is_one_of}
 use Rattle.sh_domain.specs.declared.number_set.NumberSet.{NumberSet}
 use Rattle.sh_domain.specs.Facts.{Facts}
 use Rattle.sh_domain.specs.Gains.{named}

@@ -4,7 +4,7 @@
 -- numbered.
 use Rattle.std.specs.Prelude.{List, [], ◌∷◌}
 use Rattle.sh_tree.specs.standard.program.Syntax.{Text}
-use Rattle.sh_table.specs.Calls.{Row}
+use Rattle.sh_runs.specs.Calls.{Row}
 use Rattle.sh_domain.specs.declared.certificate.Certificate as kept
 use Rattle.sh_domain.specs.Certificates.{in_byte_order, sheet_of}
 use Rattle.sh_domain.specs.Facts.{Facts, Claim, facts}

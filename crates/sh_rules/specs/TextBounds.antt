@@ -7,9 +7,9 @@ use Rattle.sh_tree.specs.declared.known.KnownName.TheVariants as known
 use Rattle.sh_tree.specs.standard.program.Syntax as p
 use Rattle.sh_tree.specs.standard.program.Syntax.{Text, Word}
 use Rattle.sh_tree.specs.standard.program.Words.{redirects_in}
-use Rattle.sh_table.specs.Profile.{Static}
-use Rattle.sh_table.specs.declared.kind.Kind.{Kind}
-use Rattle.sh_table.specs.declared.kind.Kind.TheVariants as kind
+use Rattle.sh_runs.specs.Profile.{Static}
+use Rattle.sh_runs.specs.declared.kind.Kind.{Kind}
+use Rattle.sh_runs.specs.declared.kind.Kind.TheVariants as kind
 use Rattle.sh_domain.specs.Facts.{Facts, NotReached, meet}
 use Rattle.sh_domain.specs.Gains.{named}
 use Rattle.sh_domain.specs.Operands.{declared_names, total}

@@ -5,10 +5,10 @@ use Rattle.std.specs.Prelude.{ℕ, ◌==◌, Bool, false, not, ◌&&◌, if◌th
 use Rattle.std.specs.List.{list_all}
 use Rattle.sh_tree.specs.standard.language.Bytes.{is_first, is_name}
 use Rattle.sh_tree.specs.standard.program.Syntax.{Text, Word}
-use Rattle.sh_table.specs.Profile.{Static}
-use Rattle.sh_table.specs.standard.runs.Numbers.{number_in}
-use Rattle.sh_table.specs.standard.runs.Operands.{unset_operands}
-use Rattle.sh_table.specs.standard.runs.Operands as o
+use Rattle.sh_runs.specs.Profile.{Static}
+use Rattle.sh_runs.specs.standard.runs.Numbers.{number_in}
+use Rattle.sh_runs.specs.standard.runs.Operands.{unset_operands}
+use Rattle.sh_runs.specs.standard.runs.Operands as o
 use Rattle.sh_domain.specs.Operands.{Names, removed, status}
 use Rattle.sh_gains.specs.Statics.{listed}
 use Rattle.sh_operands.specs.Numerals.{capped}

@@ -6,7 +6,7 @@ use Rattle.sh_tree.specs.Lists.{redirects_from}
 use Rattle.sh_tree.specs.standard.program.Syntax as p
 use Rattle.sh_tree.specs.standard.program.Syntax.{Text}
 use Rattle.sh_tree.specs.standard.program.Trees as trees
-use Rattle.sh_table.specs.Calls.{called, static_at, texts_with}
+use Rattle.sh_runs.specs.Calls.{called, static_at, texts_with}
 use Rattle.sh_domain.specs.declared.rule.FlowRule.{FlowRule}
 use Rattle.sh_domain.specs.Entries.{Around}
 use Rattle.sh_domain.specs.Facts.{Facts}

@@ -6,7 +6,7 @@ ghost use Rattle.sh_tree.specs.Lists.{elements_from};
 ghost use Rattle.sh_tree.specs.standard.program.Syntax.{Text};
 ghost use Rattle.sh_tree.specs.standard.program.Trees.{target_of};
 ghost use Rattle.sh_tree.specs.standard.program.Words.{redirects_in};
-ghost use Rattle.sh_table.specs.standard.runs.Environment.{is_one_of};
+ghost use Rattle.sh_runs.specs.standard.runs.Environment.{is_one_of};
 ghost use Rattle.sh_domain.specs.Gains.{named, redirect_gains};
 ghost use Rattle.sh_domain.specs.Knowledge.{contains};
 ghost use Rattle.sh_domain.specs.Table as table;

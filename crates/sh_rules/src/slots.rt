@@ -4,7 +4,7 @@ ghost use Rattle.std.specs.List.{list_all};
 ghost use Rattle.std.specs.Option.{option_copied};
 ghost use Rattle.std.specs.Str.{bytes_eq};
 ghost use Rattle.sh_tree.specs.standard.Tree.{text_of};
-ghost use Rattle.sh_table.specs.Calls.{texts_with};
+ghost use Rattle.sh_runs.specs.Calls.{texts_with};
 ghost use Rattle.sh_table.specs.WordTexts.{text_in};
 ghost use Rattle.sh_domain.specs.Names.{number_of};
 ghost use Rattle.sh_domain.specs.Slots as slots;
@@ -15,7 +15,7 @@ ghost use Rattle.sh_domain.specs.Facts.{within};
 ghost use Rattle.sh_rules.specs.Settings.{certificate, claimed_at};
 ghost use Rattle.sh_rules.specs.Places.{slot_of};
 ghost use Rattle.sh_rules.specs.Tells.{claim_in};
-ghost use Rattle.sh_table.specs.standard.runs.Environment.{is_one_of};
+ghost use Rattle.sh_runs.specs.standard.runs.Environment.{is_one_of};
 ghost use Rattle.sh_domain.specs.Certificates.{in_byte_order, names_at};
 ghost use Rattle.sh_domain.specs.Faults.{are_among};
 ghost use Rattle.sh_domain.specs.KeptRows.{holds_at};
@@ -186,15 +186,6 @@ impl Claims<'_> {
 
 // What is known where a run comes to a place, by what is claimed there.
 impl Claims<'_> {
-    /// What is claimed before a command.
-    pub fn before(&self, number: u32) -> Knowledge
-        ensures { facts_in (setting self.now) result ≡ known_at (setting self.now) (views.Before number) }
-    {
-        let mut known = Knowledge::NotReached;
-        self.before_into(number, &mut known);
-        known
-    }
-
     /// Has this be what is claimed before a command.
     #[tactic(auto, using(crate::proofs::ClaimLemmas::claim_known))]
     pub fn before_into(&self, number: u32, known: &mut Knowledge)

@@ -4,19 +4,19 @@ use Rattle.std.proofs.lemmas.Bool.{or_cases, or_left, or_right}
 use Rattle.std.proofs.lemmas.Slice.Eq.{bytes_eq-Decides}
 use Rattle.sh_tree.specs.standard.language.Bytes.{is_name}
 use Rattle.sh_tree.proofs.ListLemmas.{text_same}
-use Rattle.sh_table.proofs.FunctionLemmas.{bytes_eq_swap}
+use Rattle.sh_runs.proofs.PositionLemmas.{bytes_eq_swap}
 use Rattle.sh_tree.specs.standard.program.Syntax as p
 use Rattle.sh_tree.specs.standard.program.Syntax.{Text}
 use Rattle.sh_tree.specs.standard.program.Words.{Assignments}
-use Rattle.sh_table.specs.standard.runs.Answers.{Answer}
-use Rattle.sh_table.specs.standard.runs.Builtins.{nonzero, restored}
-use Rattle.sh_table.specs.standard.runs.Environment.{Environment, Frame, is_one_of, put_text, with_variable, hiding}
-use Rattle.sh_table.specs.standard.runs.Expansion.{in_one, Outcome, pieces_text, expand}
-use Rattle.sh_table.specs.standard.runs.States.{State, fresh}
-use Rattle.sh_table.specs.standard.runs.Steps.{Named, opened, status_behind, failed_in, redirected, unless_ended, assignment, call, act_on}
-use Rattle.sh_table.specs.standard.runs.Steps as steps
-use Rattle.sh_table.specs.standard.runs.Work.{Saved, Work, Command, Call, Return, Pushes, Effect, goes, ends, after_expansion}
-use Rattle.sh_table.proofs.EnvironmentLemmas.{if_either, hiding_kept}
+use Rattle.sh_runs.specs.standard.runs.Answers.{Answer}
+use Rattle.sh_runs.specs.standard.runs.Builtins.{nonzero, restored}
+use Rattle.sh_runs.specs.standard.runs.Environment.{Environment, Frame, is_one_of, put_text, with_variable, hiding}
+use Rattle.sh_runs.specs.standard.runs.Expansion.{in_one, Outcome, pieces_text, expand}
+use Rattle.sh_runs.specs.standard.runs.States.{State, fresh}
+use Rattle.sh_runs.specs.standard.runs.Steps.{Named, opened, status_behind, failed_in, redirected, unless_ended, assignment, call, act_on}
+use Rattle.sh_runs.specs.standard.runs.Steps as steps
+use Rattle.sh_runs.specs.standard.runs.Work.{Saved, Work, Command, Call, Return, Pushes, Effect, goes, ends, after_expansion}
+use Rattle.sh_runs.proofs.EnvironmentLemmas.{if_either, hiding_kept}
 use Rattle.sh_domain.specs.Entries.{Around}
 use Rattle.sh_domain.specs.Facts.{Facts, NotReached, Known, Variable, claims}
 use Rattle.sh_domain.specs.Gains.{no_gains, named, word_gains}

@@ -7,12 +7,12 @@ use Rattle.sh_tree.specs.declared.tree.ClauseEnd.TheVariants as clause
 use Rattle.sh_tree.specs.standard.program.Syntax as p
 use Rattle.sh_tree.specs.standard.program.Syntax.{Text}
 use Rattle.sh_tree.specs.standard.program.Words.{is_plainly, words_in}
-use Rattle.sh_table.specs.standard.runs.Environment.{Environment, Frame}
-use Rattle.sh_table.specs.standard.runs.Answers.{Answer}
-use Rattle.sh_table.specs.standard.runs.States.{State, fresh}
-use Rattle.sh_table.specs.standard.runs.Expansion.{in_one, in_fields, expand}
-use Rattle.sh_table.specs.standard.runs.Steps.{picked, clauses, falls, fall, clause_list, matched, patterns, over_fields, for_words, unless_ended, status_behind, word_fields, word_splits, act_on}
-use Rattle.sh_table.specs.standard.runs.Work.{Work, Items, ForWords, ForFields, Clauses, Patterns, Fall, Effect, goes, after_expansion}
+use Rattle.sh_runs.specs.standard.runs.Environment.{Environment, Frame}
+use Rattle.sh_runs.specs.standard.runs.Answers.{Answer}
+use Rattle.sh_runs.specs.standard.runs.States.{State, fresh}
+use Rattle.sh_runs.specs.standard.runs.Expansion.{in_one, in_fields, expand}
+use Rattle.sh_runs.specs.standard.runs.Steps.{picked, clauses, falls, fall, clause_list, matched, patterns, over_fields, for_words, unless_ended, status_behind, word_fields, word_splits, act_on}
+use Rattle.sh_runs.specs.standard.runs.Work.{Work, Items, ForWords, ForFields, Clauses, Patterns, Fall, Effect, goes, after_expansion}
 use Rattle.sh_domain.specs.declared.rule.FlowRule.TheVariants.{F9}
 use Rattle.sh_domain.specs.Entries as entries
 use Rattle.sh_domain.specs.Entries.{Around, items_after}

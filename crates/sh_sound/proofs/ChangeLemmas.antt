@@ -4,11 +4,11 @@ use Rattle.std.proofs.lemmas.Bool.{and_parts, or_cases, or_parts, true≢false}
 use Rattle.std.proofs.lemmas.Slice.Eq.{bytes_eq-Decides}
 use Rattle.sh_tree.specs.standard.language.Bytes.{is_name}
 use Rattle.sh_tree.specs.standard.program.Syntax.{Text}
-use Rattle.sh_table.specs.standard.runs.Environment.{Environment, is_one_of, put_text, with_variable, with_function, showing, hiding}
-use Rattle.sh_table.specs.standard.runs.Answers.{Answer}
-use Rattle.sh_table.specs.standard.runs.Builtins.{is_removed, removed_either, removed_any, removed, removed_all, given_to, read_into, gets_option, changes_directory}
-use Rattle.sh_table.specs.standard.runs.Operands.{Removal, OfVariables, OfFunctions, OfEither, OfAny}
-use Rattle.sh_table.proofs.EnvironmentLemmas.{if_either, showing_kept, hiding_kept}
+use Rattle.sh_runs.specs.standard.runs.Environment.{Environment, is_one_of, put_text, with_variable, with_function, showing, hiding}
+use Rattle.sh_runs.specs.standard.runs.Answers.{Answer}
+use Rattle.sh_runs.specs.standard.runs.Builtins.{is_removed, removed_either, removed_any, removed, removed_all, given_to, read_into, gets_option, changes_directory}
+use Rattle.sh_runs.specs.standard.runs.Operands.{Removal, OfVariables, OfFunctions, OfEither, OfAny}
+use Rattle.sh_runs.proofs.EnvironmentLemmas.{if_either, showing_kept, hiding_kept}
 use Rattle.sh_domain.specs.Operands as operands
 use Rattle.sh_domain.specs.Operands.{Names}
 use Rattle.sh_sound.specs.Holding.{Grows}

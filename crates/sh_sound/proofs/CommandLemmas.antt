@@ -5,10 +5,10 @@ use Rattle.sh_tree.specs.standard.language.Bytes.{is_name}
 use Rattle.sh_tree.specs.standard.program.Syntax as p
 use Rattle.sh_tree.specs.standard.program.Syntax.{Text}
 use Rattle.sh_tree.specs.standard.program.Words.{operands_in, redirects_in, assignments_in}
-use Rattle.sh_table.specs.standard.runs.Environment.{Environment, Frame, is_one_of}
-use Rattle.sh_table.specs.standard.runs.Answers.{Answer}
-use Rattle.sh_table.specs.standard.runs.Steps.{simple_work, command_work, act_on}
-use Rattle.sh_table.specs.standard.runs.Work.{Work, Command, Compound, Effect, goes}
+use Rattle.sh_runs.specs.standard.runs.Environment.{Environment, Frame, is_one_of}
+use Rattle.sh_runs.specs.standard.runs.Answers.{Answer}
+use Rattle.sh_runs.specs.standard.runs.Steps.{simple_work, command_work, act_on}
+use Rattle.sh_runs.specs.standard.runs.Work.{Work, Command, Compound, Effect, goes}
 use Rattle.sh_domain.specs.declared.rule.FlowRule.{FlowRule}
 use Rattle.sh_domain.specs.Demands.{kind_unmet, elements_unmet}
 use Rattle.sh_domain.specs.Entries as entries

@@ -4,13 +4,13 @@ use Rattle.std.proofs.lemmas.Bool.{and_parts, or_cases}
 use Rattle.std.proofs.lemmas.Slice.Eq.{bytes_eq-Decides}
 use Rattle.sh_tree.specs.standard.program.Syntax as p
 use Rattle.sh_tree.specs.standard.program.Syntax.{Text}
-use Rattle.sh_table.specs.standard.runs.Environment.{Environment, Frame, is_one_of, put_text, with_function, copied}
-use Rattle.sh_table.specs.standard.runs.Answers.{Answer}
-use Rattle.sh_table.specs.standard.runs.Builtins.{nonzero}
-use Rattle.sh_table.specs.standard.runs.States.{State, fresh}
-use Rattle.sh_table.specs.standard.runs.Expansion.{in_one, expand}
-use Rattle.sh_table.specs.standard.runs.Steps.{opened, begun, over_words, redirected_before, failed_before, unless_ended, status_behind}
-use Rattle.sh_table.specs.standard.runs.Work.{Work, Items, Compound, If, ForWords, Clauses, Start, Effect, goes, ends, after_expansion}
+use Rattle.sh_runs.specs.standard.runs.Environment.{Environment, Frame, is_one_of, put_text, with_function, copied}
+use Rattle.sh_runs.specs.standard.runs.Answers.{Answer}
+use Rattle.sh_runs.specs.standard.runs.Builtins.{nonzero}
+use Rattle.sh_runs.specs.standard.runs.States.{State, fresh}
+use Rattle.sh_runs.specs.standard.runs.Expansion.{in_one, expand}
+use Rattle.sh_runs.specs.standard.runs.Steps.{opened, begun, over_words, redirected_before, failed_before, unless_ended, status_behind}
+use Rattle.sh_runs.specs.standard.runs.Work.{Work, Items, Compound, If, ForWords, Clauses, Start, Effect, goes, ends, after_expansion}
 use Rattle.sh_domain.specs.Entries.{Around, alone, behind_list}
 use Rattle.sh_domain.specs.Facts.{Facts, NotReached, Known}
 use Rattle.sh_domain.specs.Gains.{job, and_gains, word_gains, redirect_gains, redirects_gains}

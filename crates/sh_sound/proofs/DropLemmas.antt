@@ -4,17 +4,17 @@ use Rattle.std.specs.List.{list_all}
 use Rattle.std.proofs.lemmas.Bool.{and_from, and_parts, or_parts}
 use Rattle.sh_tree.specs.standard.language.Bytes.{is_name}
 use Rattle.sh_tree.specs.standard.program.Syntax.{Text}
-use Rattle.sh_table.specs.standard.runs.Builtins.{restored}
-use Rattle.sh_table.specs.standard.runs.Environment.{Environment, Frame, is_one_of, put_text, with_variable}
-use Rattle.sh_table.specs.standard.runs.Work.{Saved, Work, Items, Links, Pipeline, Negation, Command, Words, Prepare, Utility, Call, Return, Compound, If, Then, Test, Again, ForWords, ForFields, Clauses, Patterns, Fall}
-use Rattle.sh_table.proofs.EnvironmentLemmas.{restored_kept}
+use Rattle.sh_runs.specs.standard.runs.Builtins.{restored}
+use Rattle.sh_runs.specs.standard.runs.Environment.{Environment, Frame, is_one_of, put_text, with_variable}
+use Rattle.sh_runs.specs.standard.runs.Work.{Saved, Work, Items, Links, Pipeline, Negation, Command, Words, Prepare, Utility, Call, Return, Compound, If, Then, Test, Again, ForWords, ForFields, Clauses, Patterns, Fall}
+use Rattle.sh_runs.proofs.EnvironmentLemmas.{restored_kept}
 use Rattle.sh_domain.specs.Entries.{Around, in_loop, items_after, links_after, pipeline_after}
 use Rattle.sh_domain.specs.Facts.{Facts, NotReached, Known}
 use Rattle.sh_domain.specs.Faults.{are_among}
 use Rattle.sh_domain.specs.Inclusions.{MayDrop}
 use Rattle.sh_domain.specs.Operands.{Names}
 use Rattle.sh_domain.specs.Views.{Certificate, Seen, After, in_any_case, swapped, after_command}
-use Rattle.sh_table.proofs.FunctionLemmas.{bytes_eq_swap}
+use Rattle.sh_runs.proofs.PositionLemmas.{bytes_eq_swap}
 use Rattle.sh_sound.specs.Holding.{Holds, Grows}
 use Rattle.sh_sound.specs.Going.{around, number_of, unset_before, OfFirst, Apart, FrontGood, Good, Stays}
 use Rattle.sh_sound.proofs.HoldLemmas.{all_one}

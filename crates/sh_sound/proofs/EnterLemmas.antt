@@ -4,12 +4,12 @@ use Rattle.std.proofs.lemmas.Bool.{and_parts}
 use Rattle.sh_tree.specs.standard.language.Bytes.{is_name}
 use Rattle.sh_tree.specs.standard.program.Syntax as p
 use Rattle.sh_tree.specs.standard.program.Syntax.{Text}
-use Rattle.sh_table.specs.standard.runs.Environment.{Environment, Frame, is_one_of}
-use Rattle.sh_table.specs.standard.runs.Answers.{Answer}
-use Rattle.sh_table.specs.standard.runs.Steps.{opened, command_work, compound, is_started_first, in_process, redirected_before, act_on}
-use Rattle.sh_table.specs.standard.runs.Expansion.{in_one, expand}
-use Rattle.sh_table.specs.standard.runs.States.{fresh}
-use Rattle.sh_table.specs.standard.runs.Work.{Work, Compound, Copies, Effect, goes}
+use Rattle.sh_runs.specs.standard.runs.Environment.{Environment, Frame, is_one_of}
+use Rattle.sh_runs.specs.standard.runs.Answers.{Answer}
+use Rattle.sh_runs.specs.standard.runs.Steps.{opened, command_work, compound, is_started_first, in_process, redirected_before, act_on}
+use Rattle.sh_runs.specs.standard.runs.Expansion.{in_one, expand}
+use Rattle.sh_runs.specs.standard.runs.States.{fresh}
+use Rattle.sh_runs.specs.standard.runs.Work.{Work, Compound, Copies, Effect, goes}
 use Rattle.sh_domain.specs.declared.rule.FlowRule.TheVariants.{F7, F8, F9, F10, F11, F13}
 use Rattle.sh_domain.specs.Demands.{kind_unmet, clauses_unmet, for_words_unmet}
 use Rattle.sh_domain.specs.Entries as entries

@@ -1,7 +1,7 @@
 -- If rules, demands and quoting hold, no run has an event.
 use Rattle.std.proofs.Common.{◌≡◌, Bool, true, false, ◌||◌, Option, Some, None, List, [], ◌∷◌, ◌++◌, refl, ◌∙◌, unwrap_or, option_map, option_and_then}
 use Rattle.std.proofs.lemmas.Option.{same_Some, none-some}
-use Rattle.sh_table.specs.standard.runs.Worlds.{World, Move, step, run, has_unset_event, has_split_event, start_world}
+use Rattle.sh_runs.specs.standard.runs.Worlds.{World, Move, step, run, has_unset_event, has_split_event, start_world}
 use Rattle.sh_domain.proofs.GivenLemmas.{formed_gives_fields}
 use Rattle.sh_quote.proofs.SplitLemmas.{quoting_suffices}
 use Rattle.sh_sound.specs.Theorem.{splits, HaveNoEvents}

@@ -13,12 +13,12 @@ use Rattle.sh_tree.specs.declared.tree.Special.TheVariants as special
 use Rattle.sh_tree.specs.standard.language.Bytes.{is_first, is_name}
 use Rattle.sh_tree.specs.standard.program.Syntax as p
 use Rattle.sh_tree.specs.standard.program.Syntax.{Text}
-use Rattle.sh_table.specs.standard.runs.Answers.{Given}
-use Rattle.sh_table.specs.standard.runs.Arithmetic.{Computed, computes, answered, operated, then_computed, read_name, skips, read_where, stored, operated_assignment, evaluate, evaluate_rest}
-use Rattle.sh_table.specs.standard.runs.Environment.{Environment, Frame, is_one_of, put_text, with_variable, copied}
-use Rattle.sh_table.specs.standard.runs.Expansion.{Context, in_one, in_quotes, in_default, Outcome, gives, followed, pieces_text, has_every, quote_pieces, is_empty_value, special_value, value_of, needed, value_pieces, default_assigned, used, constant_in, behind, tilde_pieces, computed_pieces, expand_part, expand, expand_operator, expand_inside, expand_operands}
-use Rattle.sh_table.specs.standard.runs.Numbers.{is_zero, is_computed, is_operand, digits, integer_text}
-use Rattle.sh_table.specs.standard.runs.States.{State, taken, ending, stray}
+use Rattle.sh_runs.specs.standard.runs.Answers.{Given}
+use Rattle.sh_runs.specs.standard.runs.Arithmetic.{Computed, computes, answered, operated, then_computed, read_name, skips, read_where, stored, operated_assignment, evaluate, evaluate_rest}
+use Rattle.sh_runs.specs.standard.runs.Environment.{Environment, Frame, is_one_of, put_text, with_variable, copied}
+use Rattle.sh_runs.specs.standard.runs.Expansion.{Context, in_one, in_quotes, in_default, Outcome, gives, followed, pieces_text, has_every, quote_pieces, is_empty_value, special_value, value_of, needed, value_pieces, default_assigned, used, constant_in, behind, tilde_pieces, computed_pieces, expand_part, expand, expand_operator, expand_inside, expand_operands}
+use Rattle.sh_runs.specs.standard.runs.Numbers.{is_zero, is_computed, is_operand, digits, integer_text}
+use Rattle.sh_runs.specs.standard.runs.States.{State, taken, ending, stray}
 use Rattle.sh_domain.specs.declared.rule.FlowRule.TheVariants.{F11}
 use Rattle.sh_domain.specs.Entries.{word_entered, part_entered, operator_entered, expression_entered, operands_entered, operand_seen}
 use Rattle.sh_domain.specs.Facts.{Facts, NotReached, Known, claims}

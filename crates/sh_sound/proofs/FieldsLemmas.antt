@@ -9,18 +9,18 @@ use Rattle.sh_tree.specs.standard.language.Commands.{is_assignment}
 use Rattle.sh_tree.specs.standard.program.Syntax as p
 use Rattle.sh_tree.specs.standard.program.Syntax.{Text}
 use Rattle.sh_tree.specs.standard.program.Words.{operands_in, static_of, assignment_in, before_word, words_in, word_text}
-use Rattle.sh_table.specs.Counts.{Count, Parameters, One, Nothing, count_of, least_fields, some_gives_field}
-use Rattle.sh_table.specs.standard.Kinds.{kind_of, is_declaration}
-use Rattle.sh_table.specs.standard.runs.Answers.{Answer}
-use Rattle.sh_table.specs.standard.runs.Environment.{Environment, Frame, separators}
-use Rattle.sh_table.specs.standard.runs.Expansion.{Literal, Piece, Bytes, in_fields, in_one, Outcome, gives, piece_text, pieces_text, expand, expand_part, followed}
-use Rattle.sh_table.specs.standard.runs.Fields.{splits}
-use Rattle.sh_table.specs.standard.runs.Operands.{definition_in}
-use Rattle.sh_table.specs.standard.runs.States.{State, fresh}
-use Rattle.sh_table.specs.standard.runs.Steps.{word_fields, word_splits}
-use Rattle.sh_table.proofs.OperandLemmas.{operands_count}
-use Rattle.sh_table.proofs.StaticLemmas.{static_fields, unless}
-use Rattle.sh_table.proofs.TextLemmas.{Assigns, assignment_front}
+use Rattle.sh_runs.specs.Counts.{Count, Parameters, One, Nothing, count_of, least_fields, some_gives_field}
+use Rattle.sh_runs.specs.standard.Kinds.{kind_of, is_declaration}
+use Rattle.sh_runs.specs.standard.runs.Answers.{Answer}
+use Rattle.sh_runs.specs.standard.runs.Environment.{Environment, Frame, separators}
+use Rattle.sh_runs.specs.standard.runs.Expansion.{Literal, Piece, Bytes, in_fields, in_one, Outcome, gives, piece_text, pieces_text, expand, expand_part, followed}
+use Rattle.sh_runs.specs.standard.runs.Fields.{splits}
+use Rattle.sh_runs.specs.standard.runs.Operands.{definition_in}
+use Rattle.sh_runs.specs.standard.runs.States.{State, fresh}
+use Rattle.sh_runs.specs.standard.runs.Steps.{word_fields, word_splits}
+use Rattle.sh_runs.proofs.OperandLemmas.{operands_count}
+use Rattle.sh_runs.proofs.StaticLemmas.{static_fields, unless}
+use Rattle.sh_runs.proofs.TextLemmas.{Assigns, assignment_front}
 use Rattle.sh_domain.specs.Inclusions.{field_formed, elements_formed, word_formed, redirect_formed}
 use Rattle.sh_tree.specs.standard.language.Bytes.{is_name}
 use Rattle.sh_domain.specs.Operands.{Total, total}

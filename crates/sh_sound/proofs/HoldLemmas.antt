@@ -5,7 +5,7 @@ use Rattle.std.proofs.lemmas.Bool.{and_parts, or_cases, or_left, or_right}
 use Rattle.std.proofs.lemmas.Slice.Eq.{bytes_eq-Decides}
 use Rattle.std.proofs.lemmas.List.Folds.{list_any-append}
 use Rattle.sh_tree.specs.standard.program.Syntax.{Text}
-use Rattle.sh_table.specs.standard.runs.Environment.{Environment, Frame, is_one_of}
+use Rattle.sh_runs.specs.standard.runs.Environment.{Environment, Frame, is_one_of}
 use Rattle.sh_domain.specs.Facts.{Facts, NotReached, Known, Claim, Unreached, Claimed, facts, within}
 use Rattle.sh_domain.specs.Gains.{Gains, no_gains, and_gains, with_gains, job}
 use Rattle.sh_domain.specs.Views.{Certificate, Slot, AfterZero, AfterNonzero, Step, Gain, Seen, After, Both, Each, if_zero, if_nonzero, in_any_case, at, stepped, gaining, after_command, step, steps, source_facts, view_facts}

@@ -1,8 +1,8 @@
 -- Steps of `break`, `continue` and `return`: the marks that they go to, and what is claimed there.
 use Rattle.std.proofs.Common.{◌≡◌, ℕ, ◌-◌, nat_le, Bool, true, false, if◌then◌else◌, List, [], ◌∷◌, Option, Some, None, is_some, refl, sym, subst}
 use Rattle.sh_tree.specs.standard.program.Syntax.{Text}
-use Rattle.sh_table.specs.standard.runs.Environment.{Environment, Frame}
-use Rattle.sh_table.specs.standard.runs.Work.{Saved, Work, Return, Test, Again, ForFields, Mark, no_loop, marked, or_nearer, nth_mark, loop_mark, broken_off, continued, return_mark, Effect, goes}
+use Rattle.sh_runs.specs.standard.runs.Environment.{Environment, Frame}
+use Rattle.sh_runs.specs.standard.runs.Work.{Saved, Work, Return, Test, Again, ForFields, Mark, no_loop, marked, or_nearer, nth_mark, loop_mark, broken_off, continued, return_mark, Effect, goes}
 use Rattle.sh_domain.specs.Entries.{Around}
 use Rattle.sh_domain.specs.Facts.{Facts}
 use Rattle.sh_domain.specs.Inclusions.{BreakRules, ContinueRules}

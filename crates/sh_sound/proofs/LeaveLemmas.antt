@@ -8,15 +8,15 @@ use Rattle.sh_tree.specs.declared.refusal.Rule.{Rule}
 use Rattle.sh_tree.specs.standard.program.Syntax as p
 use Rattle.sh_tree.specs.standard.program.Syntax.{Text, Word}
 use Rattle.sh_tree.specs.standard.program.Words.{static_of, words_in}
-use Rattle.sh_table.specs.declared.kind.Kind.TheVariants as kind
-use Rattle.sh_table.specs.Profile.{Static, unless, or_rule, kind_rule}
-use Rattle.sh_table.specs.standard.runs.Answers.{Answer}
-use Rattle.sh_table.specs.standard.runs.Builtins.{special}
-use Rattle.sh_table.specs.standard.runs.Environment.{Environment, Frame}
-use Rattle.sh_table.specs.standard.runs.Numbers.{number_in}
-use Rattle.sh_table.specs.standard.runs.Operands.{count_operand, status_operand}
-use Rattle.sh_table.specs.standard.runs.Work.{Work, loop_mark, broken_off, continued, Effect, goes}
-use Rattle.sh_table.specs.standard.runs.Rows.{is_count}
+use Rattle.sh_runs.specs.declared.kind.Kind.TheVariants as kind
+use Rattle.sh_runs.specs.Profile.{Static, unless, or_rule, kind_rule}
+use Rattle.sh_runs.specs.standard.runs.Answers.{Answer}
+use Rattle.sh_runs.specs.standard.runs.Builtins.{special}
+use Rattle.sh_runs.specs.standard.runs.Environment.{Environment, Frame}
+use Rattle.sh_runs.specs.standard.runs.Numbers.{number_in}
+use Rattle.sh_runs.specs.standard.runs.Operands.{count_operand, status_operand}
+use Rattle.sh_runs.specs.standard.runs.Work.{Work, loop_mark, broken_off, continued, Effect, goes}
+use Rattle.sh_runs.specs.standard.runs.Rows.{is_count}
 use Rattle.sh_domain.specs.Entries.{Around}
 use Rattle.sh_domain.specs.Facts.{Facts}
 use Rattle.sh_domain.specs.Inclusions.{surroundings_of, BreakRules, ContinueRules, ReturnRules, JumpRules}

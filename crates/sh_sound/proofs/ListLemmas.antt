@@ -6,11 +6,11 @@ use Rattle.sh_tree.specs.declared.tree.LoopKind.{LoopKind}
 use Rattle.sh_tree.specs.declared.tree.LoopKind.TheVariants as loop
 use Rattle.sh_tree.specs.standard.program.Syntax as p
 use Rattle.sh_tree.specs.standard.program.Syntax.{Text}
-use Rattle.sh_table.specs.standard.runs.Environment.{Environment, Frame, with_variable}
-use Rattle.sh_table.specs.standard.runs.Answers.{Answer}
-use Rattle.sh_table.specs.standard.runs.Work.{Work, Items, Links, Pipeline, Negation, If, Then, Test, Again, ForFields, Keeps, Effect, goes, ends}
-use Rattle.sh_table.specs.standard.runs.Steps.{takes_link, takes_turn, links, branch, test, for_fields, clauses, falls, fall, clause_list, act_on}
-use Rattle.sh_table.specs.standard.runs.Steps as steps
+use Rattle.sh_runs.specs.standard.runs.Environment.{Environment, Frame, with_variable}
+use Rattle.sh_runs.specs.standard.runs.Answers.{Answer}
+use Rattle.sh_runs.specs.standard.runs.Work.{Work, Items, Links, Pipeline, Negation, If, Then, Test, Again, ForFields, Keeps, Effect, goes, ends}
+use Rattle.sh_runs.specs.standard.runs.Steps.{takes_link, takes_turn, links, branch, test, for_fields, clauses, falls, fall, clause_list, act_on}
+use Rattle.sh_runs.specs.standard.runs.Steps as steps
 use Rattle.sh_domain.specs.declared.rule.FlowRule.TheVariants.{F2, F3, F6}
 use Rattle.sh_domain.specs.Entries.{Around, alone, in_part, items_after, item_after, links_after, linked, link_seen, list_after, pipeline_after, turns, ends as loop_ends}
 use Rattle.sh_domain.specs.Entries as entries

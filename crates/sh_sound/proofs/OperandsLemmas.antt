@@ -11,11 +11,11 @@ use Rattle.sh_tree.specs.standard.language.Bytes.{is_first, is_name, is_name_sta
 use Rattle.sh_tree.specs.standard.language.Commands.{is_assignment}
 use Rattle.sh_tree.specs.standard.program.Syntax.{Text, Plain, Word, no_parts, more_parts}
 use Rattle.sh_tree.specs.standard.program.Words.{static_of, assignment_in, before_word}
-use Rattle.sh_table.specs.Profile.{Static, sets_known, has_inner_o, is_signed, is_argument}
-use Rattle.sh_table.specs.standard.runs.Environment.{is_one_of}
-use Rattle.sh_table.specs.standard.runs.Numbers.{number_in}
-use Rattle.sh_table.specs.standard.runs.Operands as o
-use Rattle.sh_table.specs.standard.runs.Operands.{definition_in, definitions_in, ends_options, is_set_option, ends_in_o, set_from, count_operand, has_command, second_name, getopts_name}
+use Rattle.sh_runs.specs.Profile.{Static, sets_known, has_inner_o, is_signed, is_argument}
+use Rattle.sh_runs.specs.standard.runs.Environment.{is_one_of}
+use Rattle.sh_runs.specs.standard.runs.Numbers.{number_in}
+use Rattle.sh_runs.specs.standard.runs.Operands as o
+use Rattle.sh_runs.specs.standard.runs.Operands.{definition_in, definitions_in, ends_options, is_set_option, ends_in_o, set_from, count_operand, has_command, second_name, getopts_name}
 use Rattle.sh_domain.specs.Operands.{statics, declared_names, read_names, getopts_names, words_from, first_number, runs_command}
 use Rattle.sh_domain.specs.Gains.{job}
 use Rattle.sh_sound.specs.Fields.{Operand, Fields}

@@ -5,16 +5,16 @@ use Rattle.sh_tree.specs.standard.language.Bytes.{is_name}
 use Rattle.sh_tree.specs.standard.program.Syntax as p
 use Rattle.sh_tree.specs.standard.program.Syntax.{Text}
 use Rattle.sh_tree.specs.standard.program.Words.{Assignments, redirects_in, assignments_in}
-use Rattle.sh_table.specs.standard.Kinds.{kind_of, is_declaration}
-use Rattle.sh_table.specs.declared.kind.Kind.{Kind}
-use Rattle.sh_table.specs.declared.kind.Kind.TheVariants as kind
-use Rattle.sh_table.specs.standard.runs.Environment.{Environment, Frame, is_one_of, with_variable}
-use Rattle.sh_table.specs.standard.runs.Answers.{Answer}
-use Rattle.sh_table.specs.standard.runs.Builtins.{nonzero}
-use Rattle.sh_table.specs.standard.runs.Expansion.{in_one, Outcome, pieces_text, expand}
-use Rattle.sh_table.specs.standard.runs.States.{State, fresh}
-use Rattle.sh_table.specs.standard.runs.Steps.{opened, Manner, Nameless, Special, Named, named_manner, manner, status_behind, may_copy, invoked, unless_ended, failed_in, redirected, assignment}
-use Rattle.sh_table.specs.standard.runs.Work.{Simple, Work, Prepare, Utility, Call, Effect, goes, after_expansion}
+use Rattle.sh_runs.specs.standard.Kinds.{kind_of, is_declaration}
+use Rattle.sh_runs.specs.declared.kind.Kind.{Kind}
+use Rattle.sh_runs.specs.declared.kind.Kind.TheVariants as kind
+use Rattle.sh_runs.specs.standard.runs.Environment.{Environment, Frame, is_one_of, with_variable}
+use Rattle.sh_runs.specs.standard.runs.Answers.{Answer}
+use Rattle.sh_runs.specs.standard.runs.Builtins.{nonzero}
+use Rattle.sh_runs.specs.standard.runs.Expansion.{in_one, Outcome, pieces_text, expand}
+use Rattle.sh_runs.specs.standard.runs.States.{State, fresh}
+use Rattle.sh_runs.specs.standard.runs.Steps.{opened, Manner, Nameless, Special, Named, named_manner, manner, status_behind, may_copy, invoked, unless_ended, failed_in, redirected, assignment}
+use Rattle.sh_runs.specs.standard.runs.Work.{Simple, Work, Prepare, Utility, Call, Effect, goes, after_expansion}
 use Rattle.sh_domain.specs.Entries.{Around}
 use Rattle.sh_domain.specs.Facts.{Facts, NotReached, Known, Function, claims}
 use Rattle.sh_domain.specs.Gains.{Gains, named, and_gains, word_gains, redirect_gains, redirects_gains}

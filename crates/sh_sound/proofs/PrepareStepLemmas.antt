@@ -6,16 +6,16 @@ use Rattle.sh_tree.specs.declared.refusal.Rule.{Rule}
 use Rattle.sh_tree.specs.standard.program.Syntax as p
 use Rattle.sh_tree.specs.standard.program.Syntax.{Text, Word}
 use Rattle.sh_tree.specs.standard.program.Words.{Assignments, operands_in, static_of, words_in, is_plainly}
-use Rattle.sh_table.specs.declared.kind.Kind.{Kind}
-use Rattle.sh_table.specs.declared.kind.Kind.TheVariants as kind
-use Rattle.sh_table.specs.standard.Kinds.{kind_of, is_declaration}
-use Rattle.sh_table.specs.Profile.{Static, or_rule, kind_rule, named_rule, words_rule, command_rule}
-use Rattle.sh_table.specs.Surroundings.{Surroundings}
-use Rattle.sh_table.specs.standard.runs.Environment.{Environment, Frame}
-use Rattle.sh_table.specs.standard.runs.Answers.{Answer}
-use Rattle.sh_table.specs.standard.runs.Builtins.{special, special_or_end}
-use Rattle.sh_table.specs.standard.runs.Steps.{Manner, Special, Named, named_manner, manner, in_order, in_any_order, next_preparation, prepared, prepare, act_on}
-use Rattle.sh_table.specs.standard.runs.Work.{Simple, Work, Prepare, Effect, ends}
+use Rattle.sh_runs.specs.declared.kind.Kind.{Kind}
+use Rattle.sh_runs.specs.declared.kind.Kind.TheVariants as kind
+use Rattle.sh_runs.specs.standard.Kinds.{kind_of, is_declaration}
+use Rattle.sh_runs.specs.Profile.{Static, or_rule, kind_rule, named_rule, words_rule, command_rule}
+use Rattle.sh_runs.specs.Surroundings.{Surroundings}
+use Rattle.sh_runs.specs.standard.runs.Environment.{Environment, Frame}
+use Rattle.sh_runs.specs.standard.runs.Answers.{Answer}
+use Rattle.sh_runs.specs.standard.runs.Builtins.{special, special_or_end}
+use Rattle.sh_runs.specs.standard.runs.Steps.{Manner, Special, Named, named_manner, manner, in_order, in_any_order, next_preparation, prepared, prepare, act_on}
+use Rattle.sh_runs.specs.standard.runs.Work.{Simple, Work, Prepare, Effect, ends}
 use Rattle.sh_domain.specs.Demands.{command_moves, moves, kind_moves, is_reached}
 use Rattle.sh_domain.specs.Entries.{Around}
 use Rattle.sh_domain.specs.Facts.{Facts, NotReached, Known, claims, facts}

@@ -2,11 +2,11 @@
 use Rattle.std.proofs.Common.{◌≡◌, ℕ, suc, Bool, true, false, if◌then◌else◌, List, [], ◌∷◌, Some, refl, sym, subst, arith}
 use Rattle.sh_tree.specs.standard.program.Syntax as p
 use Rattle.sh_tree.specs.standard.program.Syntax.{Text}
-use Rattle.sh_table.specs.standard.runs.Environment.{Environment, Frame, copied}
-use Rattle.sh_table.specs.standard.runs.Answers.{Answer}
-use Rattle.sh_table.specs.standard.runs.Steps as steps
-use Rattle.sh_table.specs.standard.runs.Steps.{negated_work, parts, piped, and_or_work, act_on}
-use Rattle.sh_table.specs.standard.runs.Work.{Work, Items, Pipeline, Command, Shares, Copies, Effect}
+use Rattle.sh_runs.specs.standard.runs.Environment.{Environment, Frame, copied}
+use Rattle.sh_runs.specs.standard.runs.Answers.{Answer}
+use Rattle.sh_runs.specs.standard.runs.Steps as steps
+use Rattle.sh_runs.specs.standard.runs.Steps.{negated_work, parts, piped, and_or_work, act_on}
+use Rattle.sh_runs.specs.standard.runs.Work.{Work, Items, Pipeline, Command, Shares, Copies, Effect}
 use Rattle.sh_domain.specs.declared.rule.FlowRule.{FlowRule}
 use Rattle.sh_domain.specs.declared.rule.FlowRule.TheVariants.{F2, F11, F12}
 use Rattle.sh_domain.specs.Entries as entries

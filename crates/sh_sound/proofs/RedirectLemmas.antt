@@ -1,12 +1,12 @@
 -- Steps of the redirections of simple commands, of utilities and of functions.
 use Rattle.std.proofs.Common.{◌≡◌, ℕ, Bool, true, false, ◌&&◌, ◌||◌, if◌then◌else◌, is_some, List, refl, sym, subst}
 use Rattle.sh_tree.specs.standard.program.Syntax.{Text}
-use Rattle.sh_table.specs.standard.runs.Environment.{Environment, Frame}
-use Rattle.sh_table.specs.standard.runs.Answers.{Answer}
-use Rattle.sh_table.specs.standard.runs.Builtins.{nonzero}
-use Rattle.sh_table.specs.standard.runs.States.{State, fresh}
-use Rattle.sh_table.specs.standard.runs.Steps.{Manner, Nameless, Special, Named, status_behind, unless_ended, failed_in, redirected}
-use Rattle.sh_table.specs.standard.runs.Work.{Work, Effect, goes, ends, after_expansion}
+use Rattle.sh_runs.specs.standard.runs.Environment.{Environment, Frame}
+use Rattle.sh_runs.specs.standard.runs.Answers.{Answer}
+use Rattle.sh_runs.specs.standard.runs.Builtins.{nonzero}
+use Rattle.sh_runs.specs.standard.runs.States.{State, fresh}
+use Rattle.sh_runs.specs.standard.runs.Steps.{Manner, Nameless, Special, Named, status_behind, unless_ended, failed_in, redirected}
+use Rattle.sh_runs.specs.standard.runs.Work.{Work, Effect, goes, ends, after_expansion}
 use Rattle.sh_domain.specs.Entries.{Around}
 use Rattle.sh_domain.specs.Facts.{Facts}
 use Rattle.sh_domain.specs.Gains.{Gains}

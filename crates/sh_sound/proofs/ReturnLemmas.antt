@@ -3,12 +3,12 @@ use Rattle.std.proofs.Common.{◌≡◌, ℕ, ◌==◌, Bool, true, false, if◌
 use Rattle.sh_tree.specs.standard.program.Syntax as p
 use Rattle.sh_tree.specs.standard.program.Syntax.{Text, Word}
 use Rattle.sh_tree.specs.standard.program.Words.{words_in}
-use Rattle.sh_table.specs.standard.runs.Answers.{Answer}
-use Rattle.sh_table.specs.standard.runs.Builtins.{restored, returned}
-use Rattle.sh_table.specs.standard.runs.Environment.{Environment, Frame}
-use Rattle.sh_table.specs.standard.runs.Operands.{status_operand}
-use Rattle.sh_table.specs.standard.runs.Steps.{act_on}
-use Rattle.sh_table.specs.standard.runs.Work.{Saved, Work, Return, return_mark, Pops, Effect, goes}
+use Rattle.sh_runs.specs.standard.runs.Answers.{Answer}
+use Rattle.sh_runs.specs.standard.runs.Builtins.{restored, returned}
+use Rattle.sh_runs.specs.standard.runs.Environment.{Environment, Frame}
+use Rattle.sh_runs.specs.standard.runs.Operands.{status_operand}
+use Rattle.sh_runs.specs.standard.runs.Steps.{act_on}
+use Rattle.sh_runs.specs.standard.runs.Work.{Saved, Work, Return, return_mark, Pops, Effect, goes}
 use Rattle.sh_domain.specs.Entries.{Around}
 use Rattle.sh_domain.specs.Facts.{Facts}
 use Rattle.sh_domain.specs.Inclusions.{Covers, StatusRules, ReturnRules}

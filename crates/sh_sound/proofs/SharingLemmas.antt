@@ -1,9 +1,9 @@
 -- Who shares what, in every world that a run comes to.
 use Rattle.std.proofs.Common.{◌≡◌, ◌≢◌, ℕ, zero, suc, ◌<◌, ◌≤◌, ◌==◌, ◌||◌, Bool, true, false, Option, Some, None, is_some, List, [], ◌∷◌, ◌⊎◌, inl, inr, refl, sym, ◌∙◌, ap, subst, arith, eqb-true, eq-eqb}
 use Rattle.std.proofs.lemmas.Option.{same_Some, none-some}
-use Rattle.sh_table.specs.standard.runs.Work.{Work, Frames, Keeps, Pushes, Pops}
-use Rattle.sh_table.specs.standard.runs.Worlds.{Process, World, put, is_part_of, any_below, waits, outer, frames_after, with_frames, first_frame}
-use Rattle.sh_table.proofs.WorldLemmas.{put_other, put_cases}
+use Rattle.sh_runs.specs.standard.runs.Work.{Work, Frames, Keeps, Pushes, Pops}
+use Rattle.sh_runs.specs.standard.runs.Worlds.{Process, World, put, is_part_of, any_below, waits, outer, frames_after, with_frames, first_frame}
+use Rattle.sh_runs.proofs.WorldLemmas.{put_other, put_cases}
 use Rattle.sh_sound.specs.Sharing.{Among, Distinct, innermost_of, outermost_of, but_outermost, own_frames, IsPart, IsPlaced, Sharing}
 
 -- Numbers of frames

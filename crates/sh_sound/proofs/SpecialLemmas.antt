@@ -1,8 +1,8 @@
 -- Special built-in utilities, by what the table says of each.
 use Rattle.std.proofs.Common.{◌≡◌, ℕ, ◌-◌, ◌≤◌, true, List, [], ◌∷◌, length, refl, sym, subst, ◌∙◌, arith}
 use Rattle.sh_tree.specs.standard.program.Syntax.{Text}
-use Rattle.sh_table.specs.standard.runs.Environment.{Environment, Frame}
-use Rattle.sh_table.specs.standard.runs.Work.{Work, Return, Keeps, Effect, goes}
+use Rattle.sh_runs.specs.standard.runs.Environment.{Environment, Frame}
+use Rattle.sh_runs.specs.standard.runs.Work.{Work, Return, Keeps, Effect, goes}
 use Rattle.sh_domain.specs.Entries.{Around}
 use Rattle.sh_domain.specs.Facts.{Facts, NotReached, Known}
 use Rattle.sh_domain.specs.Gains.{Gains, named}

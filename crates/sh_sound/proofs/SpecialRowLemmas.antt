@@ -7,15 +7,15 @@ use Rattle.sh_tree.specs.standard.program.Syntax.{Text, Word}
 use Rattle.sh_tree.specs.standard.program.Words.{operands_in, redirects_in, static_of, words_in}
 use Rattle.sh_tree.specs.declared.known.KnownName.{KnownName}
 use Rattle.sh_tree.specs.declared.known.KnownName.TheVariants as known
-use Rattle.sh_table.specs.declared.kind.Kind.TheVariants as kind
-use Rattle.sh_table.specs.standard.Kinds.{is_declaration}
-use Rattle.sh_table.specs.Profile.{sets_known, kind_rule}
-use Rattle.sh_table.specs.standard.runs.Environment.{Environment, Frame, is_one_of, put_text, with_function, showing}
-use Rattle.sh_table.specs.standard.runs.Answers.{Answer}
-use Rattle.sh_table.specs.standard.runs.Builtins.{nonzero, set_frame, shifted, special, unset_names, removed_all}
-use Rattle.sh_table.specs.standard.runs.Operands.{definitions_in, has_command, set_words, count_operand, unset_operands}
-use Rattle.sh_table.specs.standard.runs.Work.{Work, Effect, goes}
-use Rattle.sh_table.proofs.EnvironmentLemmas.{all_removed_kept}
+use Rattle.sh_runs.specs.declared.kind.Kind.TheVariants as kind
+use Rattle.sh_runs.specs.standard.Kinds.{is_declaration}
+use Rattle.sh_runs.specs.Profile.{sets_known, kind_rule}
+use Rattle.sh_runs.specs.standard.runs.Environment.{Environment, Frame, is_one_of, put_text, with_function, showing}
+use Rattle.sh_runs.specs.standard.runs.Answers.{Answer}
+use Rattle.sh_runs.specs.standard.runs.Builtins.{nonzero, set_frame, shifted, special, unset_names, removed_all}
+use Rattle.sh_runs.specs.standard.runs.Operands.{definitions_in, has_command, set_words, count_operand, unset_operands}
+use Rattle.sh_runs.specs.standard.runs.Work.{Work, Effect, goes}
+use Rattle.sh_runs.proofs.EnvironmentLemmas.{all_removed_kept}
 use Rattle.sh_domain.specs.Demands.{kind_moves}
 use Rattle.sh_domain.specs.Entries.{Around}
 use Rattle.sh_domain.specs.Facts.{Facts, facts}

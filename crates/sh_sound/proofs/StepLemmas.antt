@@ -2,12 +2,12 @@
 use Rattle.std.proofs.Common.{◌≡◌, ℕ, Bool, true, false, if◌then◌else◌, List, [], ◌∷◌, ◌++◌, Option, refl, sym, subst}
 use Rattle.sh_tree.specs.standard.program.Syntax as p
 use Rattle.sh_tree.specs.standard.program.Syntax.{Text}
-use Rattle.sh_table.specs.standard.runs.Environment.{Environment, Frame}
-use Rattle.sh_table.specs.standard.runs.Answers.{Answer}
-use Rattle.sh_table.specs.standard.runs.States.{State, Copy, fresh}
-use Rattle.sh_table.specs.standard.runs.Expansion.{Context, expand}
-use Rattle.sh_table.specs.standard.runs.Steps.{unless_ended}
-use Rattle.sh_table.specs.standard.runs.Work.{Work, Items, Keeps, Effect, goes, ends, of_copies, after_expansion}
+use Rattle.sh_runs.specs.standard.runs.Environment.{Environment, Frame}
+use Rattle.sh_runs.specs.standard.runs.Answers.{Answer}
+use Rattle.sh_runs.specs.standard.runs.States.{State, Copy, fresh}
+use Rattle.sh_runs.specs.standard.runs.Expansion.{Context, expand}
+use Rattle.sh_runs.specs.standard.runs.Steps.{unless_ended}
+use Rattle.sh_runs.specs.standard.runs.Work.{Work, Items, Keeps, Effect, goes, ends, of_copies, after_expansion}
 use Rattle.sh_domain.specs.Entries.{Around, alone}
 use Rattle.sh_domain.specs.Facts.{Facts}
 use Rattle.sh_domain.specs.Gains.{Gains, word_gains}

@@ -7,9 +7,9 @@ use Rattle.std.proofs.lemmas.Slice.Eq.{bytes_eq-Decides}
 use Rattle.sh_tree.specs.standard.language.Bytes.{is_name}
 use Rattle.sh_tree.specs.standard.program.Syntax as p
 use Rattle.sh_tree.specs.standard.program.Syntax.{Text}
-use Rattle.sh_table.specs.standard.runs.Environment.{Environment, Frame, is_one_of}
-use Rattle.sh_table.specs.standard.runs.Work.{Work, Items}
-use Rattle.sh_table.specs.standard.runs.Worlds.{Process, World, start_names, start_world, IsStart}
+use Rattle.sh_runs.specs.standard.runs.Environment.{Environment, Frame, is_one_of}
+use Rattle.sh_runs.specs.standard.runs.Work.{Work, Items}
+use Rattle.sh_runs.specs.standard.runs.Worlds.{Process, World, start_names, start_world, IsStart}
 use Rattle.sh_domain.specs.declared.rule.FlowRule.TheVariants.{F1}
 use Rattle.sh_domain.specs.Entries.{Around, Entered, alone, script_entered}
 use Rattle.sh_domain.specs.Facts.{Facts, Declared, start_facts}

@@ -8,15 +8,15 @@ use Rattle.sh_tree.specs.standard.language.Bytes.{is_name}
 use Rattle.sh_tree.specs.standard.program.Syntax as p
 use Rattle.sh_tree.specs.standard.program.Syntax.{Text, Word}
 use Rattle.sh_tree.specs.standard.program.Words.{operands_in}
-use Rattle.sh_table.specs.declared.kind.Kind.{Kind}
-use Rattle.sh_table.specs.declared.kind.Kind.TheVariants as kind
-use Rattle.sh_table.specs.standard.Kinds.{Table, look_up, all_names, kind_of}
-use Rattle.sh_table.specs.standard.runs.Environment.{Environment, Frame, is_one_of, with_variable}
-use Rattle.sh_table.specs.standard.runs.Answers.{Answer}
-use Rattle.sh_table.specs.standard.runs.Builtins.{nonzero, read_into, reads, gets_option, changes_directory, utility}
-use Rattle.sh_table.specs.standard.runs.Operands as o
-use Rattle.sh_table.specs.standard.runs.Operands.{getopts_name}
-use Rattle.sh_table.specs.standard.runs.Work.{Work, Effect, goes}
+use Rattle.sh_runs.specs.declared.kind.Kind.{Kind}
+use Rattle.sh_runs.specs.declared.kind.Kind.TheVariants as kind
+use Rattle.sh_runs.specs.standard.Kinds.{Table, look_up, all_names, kind_of}
+use Rattle.sh_runs.specs.standard.runs.Environment.{Environment, Frame, is_one_of, with_variable}
+use Rattle.sh_runs.specs.standard.runs.Answers.{Answer}
+use Rattle.sh_runs.specs.standard.runs.Builtins.{nonzero, read_into, reads, gets_option, changes_directory, utility}
+use Rattle.sh_runs.specs.standard.runs.Operands as o
+use Rattle.sh_runs.specs.standard.runs.Operands.{getopts_name}
+use Rattle.sh_runs.specs.standard.runs.Work.{Work, Effect, goes}
 use Rattle.sh_domain.specs.Entries.{Around}
 use Rattle.sh_domain.specs.Facts.{Facts, NotReached, Known, Function, claims, facts}
 use Rattle.sh_domain.specs.Gains.{Gains, job, named, words_gains}

@@ -5,15 +5,15 @@ use Rattle.std.proofs.lemmas.Bool.{and_parts}
 use Rattle.sh_tree.specs.standard.program.Syntax as p
 use Rattle.sh_tree.specs.standard.program.Syntax.{Text}
 use Rattle.sh_tree.specs.standard.program.Words.{Assignments, operands_in, redirects_in, assignments_in, static_of, words_in}
-use Rattle.sh_table.specs.standard.Kinds.{kind_of, is_declaration}
-use Rattle.sh_table.specs.Profile.{Static, named_rule, words_rule, command_rule}
-use Rattle.sh_table.specs.Surroundings.{Surroundings}
-use Rattle.sh_table.specs.standard.runs.Environment.{Environment, Frame}
-use Rattle.sh_table.specs.standard.runs.Answers.{Answer}
-use Rattle.sh_table.specs.standard.runs.Expansion.{Outcome, expand}
-use Rattle.sh_table.specs.standard.runs.States.{fresh}
-use Rattle.sh_table.specs.standard.runs.Steps.{Manner, Nameless, Special, Named, manner, is_declared, word_context, word_fields, word_splits, status_behind, unless_ended, words, act_on}
-use Rattle.sh_table.specs.standard.runs.Work.{Simple, Work, Words, Prepare, Effect, goes, after_expansion}
+use Rattle.sh_runs.specs.standard.Kinds.{kind_of, is_declaration}
+use Rattle.sh_runs.specs.Profile.{Static, named_rule, words_rule, command_rule}
+use Rattle.sh_runs.specs.Surroundings.{Surroundings}
+use Rattle.sh_runs.specs.standard.runs.Environment.{Environment, Frame}
+use Rattle.sh_runs.specs.standard.runs.Answers.{Answer}
+use Rattle.sh_runs.specs.standard.runs.Expansion.{Outcome, expand}
+use Rattle.sh_runs.specs.standard.runs.States.{fresh}
+use Rattle.sh_runs.specs.standard.runs.Steps.{Manner, Nameless, Special, Named, manner, is_declared, word_context, word_fields, word_splits, status_behind, unless_ended, words, act_on}
+use Rattle.sh_runs.specs.standard.runs.Work.{Simple, Work, Words, Prepare, Effect, goes, after_expansion}
 use Rattle.sh_domain.specs.Entries.{Around}
 use Rattle.sh_domain.specs.Facts.{Facts, NotReached, Known}
 use Rattle.sh_domain.specs.Gains.{Gains, no_gains, word_gains, words_gains}

@@ -2,12 +2,12 @@
 use Rattle.std.proofs.Common.{◌≡◌, ◌≢◌, ℕ, suc, ◌<◌, ◌≤◌, ◌==◌, ◌||◌, Bool, true, false, Option, Some, None, is_some, if◌then◌else◌, List, [], ◌∷◌, map, ◌⊎◌, inl, inr, refl, sym, ◌∙◌, ap, subst, arith, eqb-true, unwrap_or, option_map, option_and_then}
 use Rattle.std.proofs.lemmas.Option.{same_Some, none-some}
 use Rattle.sh_tree.specs.standard.program.Syntax.{Text}
-use Rattle.sh_table.specs.standard.runs.Answers.{Answer}
-use Rattle.sh_table.specs.standard.runs.Environment.{Environment, Frame}
-use Rattle.sh_table.specs.standard.runs.Steps.{act}
-use Rattle.sh_table.specs.standard.runs.Work.{Work, Start, Shares, Copies, Frames, Keeps, Pushes, Pops, Effect}
-use Rattle.sh_table.specs.standard.runs.Worlds.{Process, World, Move, put, innermost, waits, outer, frames_after, first_frame, with_frames, with_environment, with_process, stepped, start, start_all, apply, effect_of, may_step, step, run, has_unset_event, has_split_event}
-use Rattle.sh_table.proofs.WorldLemmas.{put_same, put_other, put_cases, Made, step_made}
+use Rattle.sh_runs.specs.standard.runs.Answers.{Answer}
+use Rattle.sh_runs.specs.standard.runs.Environment.{Environment, Frame}
+use Rattle.sh_runs.specs.standard.runs.Steps.{act}
+use Rattle.sh_runs.specs.standard.runs.Work.{Work, Start, Shares, Copies, Frames, Keeps, Pushes, Pops, Effect}
+use Rattle.sh_runs.specs.standard.runs.Worlds.{Process, World, Move, put, innermost, waits, outer, frames_after, first_frame, with_frames, with_environment, with_process, stepped, start, start_all, apply, effect_of, may_step, step, run, has_unset_event, has_split_event}
+use Rattle.sh_runs.proofs.WorldLemmas.{put_same, put_other, put_cases, Made, step_made}
 use Rattle.sh_domain.specs.Entries.{Around}
 use Rattle.sh_domain.specs.Facts.{Facts}
 use Rattle.sh_domain.specs.Inclusions.{Each}

@@ -6,10 +6,10 @@ use Rattle.sh_tree.specs.standard.language.Bytes.{is_name}
 use Rattle.sh_tree.specs.standard.program.Syntax as p
 use Rattle.sh_tree.specs.standard.program.Syntax.{Text, Word}
 use Rattle.sh_tree.specs.standard.program.Words.{Assignments, redirects_in, assignments_in, operands_in}
-use Rattle.sh_table.specs.standard.Kinds.{kind_of}
-use Rattle.sh_table.specs.standard.runs.Environment.{is_one_of}
-use Rattle.sh_table.specs.standard.runs.Steps.{opened, Manner, Nameless, Special, Named, manner}
-use Rattle.sh_table.specs.standard.runs.Work.{Simple, Saved, Work, Words, Prepare, Utility, Call}
+use Rattle.sh_runs.specs.standard.Kinds.{kind_of}
+use Rattle.sh_runs.specs.standard.runs.Environment.{is_one_of}
+use Rattle.sh_runs.specs.standard.runs.Steps.{opened, Manner, Nameless, Special, Named, manner}
+use Rattle.sh_runs.specs.standard.runs.Work.{Simple, Saved, Work, Words, Prepare, Utility, Call}
 use Rattle.sh_domain.specs.Entries.{Around}
 use Rattle.sh_domain.specs.Facts.{Facts, NotReached, Known, Function, Variable, claims, facts}
 use Rattle.sh_domain.specs.Gains.{Gains, named, and_gains, with_gains, words_gains, redirects_gains}

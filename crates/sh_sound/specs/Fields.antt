@@ -6,9 +6,9 @@ use Rattle.std.specs.Prelude.{◌≡◌, ℕ, ◌≤◌, Bool, true, false, List
 use Rattle.sh_tree.specs.standard.program.Syntax as p
 use Rattle.sh_tree.specs.standard.program.Syntax.{Text, Word}
 use Rattle.sh_tree.specs.standard.program.Words.{operands_in, static_of, assignment_in, words_in}
-use Rattle.sh_table.specs.Counts.{Count, Parameters, One, Nothing, count_of}
-use Rattle.sh_table.specs.standard.Kinds.{kind_of, is_declaration}
-use Rattle.sh_table.specs.standard.runs.Operands.{definition_in}
+use Rattle.sh_runs.specs.Counts.{Count, Parameters, One, Nothing, count_of}
+use Rattle.sh_runs.specs.standard.Kinds.{kind_of, is_declaration}
+use Rattle.sh_runs.specs.standard.runs.Operands.{definition_in}
 
 -- how many fields a word gives at least
 unfoldable pub least : ℕ → Count → ℕ

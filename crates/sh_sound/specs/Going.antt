@@ -10,10 +10,10 @@ use Rattle.sh_tree.specs.standard.language.Bytes.{is_name}
 use Rattle.sh_tree.specs.standard.program.Syntax as p
 use Rattle.sh_tree.specs.standard.program.Syntax.{Text}
 use Rattle.sh_tree.specs.standard.program.Words.{is_plainly, words_in}
-use Rattle.sh_table.specs.standard.runs.Builtins.{restored}
-use Rattle.sh_table.specs.standard.runs.Environment.{Environment, Frame, is_one_of}
-use Rattle.sh_table.specs.standard.runs.Steps.{opened}
-use Rattle.sh_table.specs.standard.runs.Work.{Saved, Work, Items, Links, Pipeline, Negation, Command, Words, Prepare, Utility, Call, Return, Compound, If, Then, Test, Again, ForWords, ForFields, Clauses, Patterns, Fall, Start, Shares, Copies, Frames, Keeps, Pushes, Pops, Effect}
+use Rattle.sh_runs.specs.standard.runs.Builtins.{restored}
+use Rattle.sh_runs.specs.standard.runs.Environment.{Environment, Frame, is_one_of}
+use Rattle.sh_runs.specs.standard.runs.Steps.{opened}
+use Rattle.sh_runs.specs.standard.runs.Work.{Saved, Work, Items, Links, Pipeline, Negation, Command, Words, Prepare, Utility, Call, Return, Compound, If, Then, Test, Again, ForWords, ForFields, Clauses, Patterns, Fall, Start, Shares, Copies, Frames, Keeps, Pushes, Pops, Effect}
 use Rattle.sh_domain.specs.declared.rule.FlowRule.{FlowRule}
 use Rattle.sh_domain.specs.Entries.{Around, alone, in_loop, in_function, items_after, links_after, pipeline_after, behind_list, otherwise_seen, turns, falls, items_entered, links_entered, pipeline_entered, command_entered, branches_entered, otherwise_entered, clauses_entered, word_entered}
 use Rattle.sh_domain.specs.Facts.{Facts, NotReached, Known}

@@ -4,8 +4,8 @@
 use Rattle.std.specs.Prelude.{◌≡◌, ℕ, ◌≤◌, ◌==◌, Bool, true, false, if◌then◌else◌, List, [], ◌∷◌, length, ◌⊎◌, Option, Some, is_some}
 use Rattle.sh_tree.specs.standard.language.Bytes.{is_name}
 use Rattle.sh_tree.specs.standard.program.Syntax.{Text, Command}
-use Rattle.sh_table.specs.standard.runs.Environment.{Environment, Frame, is_one_of}
-use Rattle.sh_table.specs.standard.runs.States.{State, Copy}
+use Rattle.sh_runs.specs.standard.runs.Environment.{Environment, Frame, is_one_of}
+use Rattle.sh_runs.specs.standard.runs.States.{State, Copy}
 use Rattle.sh_domain.specs.declared.rule.FlowRule.{FlowRule}
 use Rattle.sh_domain.specs.Entries.{Entered, alone, items_entered}
 use Rattle.sh_domain.specs.Facts.{Facts, NotReached, Known}

@@ -1,7 +1,7 @@
 -- Which environments and frames the live processes of a run have together.
 -- POSIX.1-2024, XCU 2.9.2 (pipelines), 2.13 (shell execution environment).
 use Rattle.std.specs.Prelude.{◌≡◌, ℕ, ◌<◌, true, List, [], ◌∷◌, ◌⊎◌, Option, Some, None, is_some}
-use Rattle.sh_table.specs.standard.runs.Worlds.{Process}
+use Rattle.sh_runs.specs.standard.runs.Worlds.{Process}
 
 -- the number is among these
 unfoldable pub Among : ℕ → List ℕ → Type 0

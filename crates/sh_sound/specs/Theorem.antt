@@ -9,9 +9,9 @@ use Rattle.sh_tree.specs.standard.language.Bytes.{is_name}
 use Rattle.sh_tree.specs.standard.language.Reading.{Reads}
 use Rattle.sh_tree.specs.standard.program.Syntax.{Items}
 use Rattle.sh_tree.specs.standard.program.Trees.{script_of}
-use Rattle.sh_table.specs.Admitted.{is_admitted}
-use Rattle.sh_table.specs.standard.runs.Environment.{Environment, Frame}
-use Rattle.sh_table.specs.standard.runs.Worlds.{World, Move, step, run, has_unset_event, has_split_event, start_world, IsStart}
+use Rattle.sh_runs.specs.Admitted.{is_admitted}
+use Rattle.sh_runs.specs.standard.runs.Environment.{Environment, Frame}
+use Rattle.sh_runs.specs.standard.runs.Worlds.{World, Move, step, run, has_unset_event, has_split_event, start_world, IsStart}
 use Rattle.sh_domain.specs.Demands.{demands}
 use Rattle.sh_domain.specs.Facts.{Declared, start_facts}
 use Rattle.sh_domain.specs.Faults.{faults}

@@ -1,4 +1,4 @@
-//! What the rules and the demands that `sh_domain` defines are good for in the runs that `sh_table`
+//! What the rules and the demands that `sh_domain` defines are good for in the runs that `sh_runs`
 //! defines.
 ghost use Rattle.sh_sound.specs.Theorem.{RulesSuffice, ScriptsExpandNothingUnset, HaveNoEvents, ScriptsHaveNoEvents};
 

@@ -8,9 +8,9 @@ use Rattle.sh_tree.specs.declared.limits.TheConstants.{MAX_COMMANDS, MAX_NESTING
 use Rattle.sh_tree.specs.declared.tree.Script.{Script}
 use Rattle.sh_tree.specs.standard.program.Syntax.{Text}
 use Rattle.sh_tree.specs.standard.program.Trees.{script_of}
-use Rattle.sh_table.specs.Calls.{table_of}
-use Rattle.sh_table.specs.Numbering.{is_numbered}
-use Rattle.sh_table.specs.standard.runs.Environment.{is_one_of}
+use Rattle.sh_runs.specs.Calls.{table_of}
+use Rattle.sh_runs.specs.Numbering.{is_numbered}
+use Rattle.sh_runs.specs.standard.runs.Environment.{is_one_of}
 use Rattle.sh_domain.specs.declared.certificate.Certificate as kept
 use Rattle.sh_domain.specs.declared.certificate.Entry.{Entry}
 use Rattle.sh_domain.specs.declared.certificate.Facts as value

@@ -20,7 +20,7 @@ use Rattle.sh_domain.specs.Rules as r
 use Rattle.sh_domain.specs.Rules.{Constraint, bound, bounds, losses}
 use Rattle.sh_domain.specs.Sheets.{Sheet}
 use Rattle.sh_domain.specs.Table.{Nameless, Utility, after_nameless, after_utility, assignments_gains, behind_words, is_redirected, manner}
-use Rattle.sh_table.specs.declared.kind.Kind.TheVariants as kind
+use Rattle.sh_runs.specs.declared.kind.Kind.TheVariants as kind
 use Rattle.sh_tree.specs.Lists.{elements_from, redirects_from}
 use Rattle.sh_tree.specs.standard.Words.{elements_of}
 use Rattle.sh_tree.specs.standard.program.Words.{redirects_in}

@@ -3,9 +3,9 @@ use Rattle.std.proofs.Common.{◌≡◌, ℕ, ◌+◌, ◌<◌, ◌≤◌, Bool,
 use Rattle.std.specs.List.{position_from}
 use Rattle.std.specs.Str.{bytes_eq}
 use Rattle.sh_tree.specs.standard.program.Syntax.{Text}
-use Rattle.sh_table.specs.Calls.{Table, callee_at, called, text_at}
-use Rattle.sh_table.specs.Profile.{Static}
-use Rattle.sh_table.specs.standard.Kinds.{kind_of, is_special}
+use Rattle.sh_runs.specs.Calls.{Table, callee_at, called, text_at}
+use Rattle.sh_runs.specs.Profile.{Static}
+use Rattle.sh_runs.specs.standard.Kinds.{kind_of, is_special}
 
 position_some : {A : Type 0} (p : A → Bool) (k : ℕ) (xs : List A) (f : ℕ) → position_from p k xs ≡ Some f → (k ≤ f) × (f < k + length xs)
 position_some p k [] f e = cc

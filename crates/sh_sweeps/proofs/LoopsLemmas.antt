@@ -20,8 +20,8 @@ use Rattle.sh_tree.specs.standard.program.Syntax.{Text}
 use Rattle.sh_tree.specs.standard.program.Trees as trees
 use Rattle.sh_tree.proofs.ProgramRules.{command_of-out}
 use Rattle.sh_tree.specs.Commands.{commands_of}
-use Rattle.sh_table.specs.Sites.{site_of}
-use Rattle.sh_table.specs.Surroundings.{Located, outside, items_located}
+use Rattle.sh_runs.specs.Sites.{site_of}
+use Rattle.sh_runs.specs.Surroundings.{Located, outside, items_located}
 use Rattle.sh_domain.specs.Admitted.{IsAdmitted}
 use Rattle.sh_domain.specs.Entries.{Entered, script_entered}
 use Rattle.sh_domain.specs.Facts.{Declared}

@@ -25,12 +25,12 @@ use Rattle.sh_tree.specs.standard.Words.{static_text, words_of}
 use Rattle.sh_tree.proofs.ProgramForms.{operands_of_elements}
 use Rattle.sh_tree.proofs.ProgramRules as rules
 use Rattle.sh_tree.proofs.ProgramWords.{static_of_parts}
-use Rattle.sh_table.specs.declared.kind.Kind.{Kind}
-use Rattle.sh_table.specs.declared.kind.Kind.TheVariants as kind
-use Rattle.sh_table.specs.standard.Kinds.{Table, all_names, kind_of, look_up}
-use Rattle.sh_table.specs.Surroundings.{outside}
-use Rattle.sh_table.specs.standard.runs.Environment.{is_one_of}
-use Rattle.sh_table.specs.standard.runs.Operands.{Removal, OfVariables, OfFunctions, OfEither, OfAny, ends_options, is_dashed, removal_of, unset_from, unset_operands}
+use Rattle.sh_runs.specs.declared.kind.Kind.{Kind}
+use Rattle.sh_runs.specs.declared.kind.Kind.TheVariants as kind
+use Rattle.sh_runs.specs.standard.Kinds.{Table, all_names, kind_of, look_up}
+use Rattle.sh_runs.specs.Surroundings.{outside}
+use Rattle.sh_runs.specs.standard.runs.Environment.{is_one_of}
+use Rattle.sh_runs.specs.standard.runs.Operands.{Removal, OfVariables, OfFunctions, OfEither, OfAny, ends_options, is_dashed, removal_of, unset_from, unset_operands}
 use Rattle.sh_domain.specs.declared.rule.FlowRule.{FlowRule}
 use Rattle.sh_domain.specs.declared.rule.FlowRule.TheVariants.{F5, F6, F7, F8, F9, F10, F11, F13, F14, F15}
 use Rattle.sh_domain.specs.declared.rule.FlowRule.TheVariants as flow

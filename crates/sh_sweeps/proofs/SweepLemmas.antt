@@ -10,7 +10,7 @@ use Rattle.sh_rules.proofs.AboveLemmas.{above}
 use Rattle.sh_rules.proofs.LedLemmas as led
 use Rattle.sh_rules.proofs.LedLemmas.{Follows}
 use Rattle.sh_domain.specs.Admitted.{claims_in, functions_in}
-use Rattle.sh_table.specs.Calls.{Table, table_of}
+use Rattle.sh_runs.specs.Calls.{Table, table_of}
 use Rattle.sh_tree.specs.declared.tree.Script.{Script}
 use Rattle.sh_rules.specs.declared.claims.Claims.{Claims}
 use Rattle.sh_rules.specs.Walks.{setting}

@@ -32,7 +32,7 @@ use Rattle.sh_tree.specs.Commands as tree
 use Rattle.sh_tree.specs.Commands.{commands_of}
 use Rattle.sh_tree.proofs.ProgramRules.{command_of-out}
 use Rattle.sh_tree.specs.standard.Tree.{text_of}
-use Rattle.sh_table.specs.Surroundings.{Surroundings, Located, outside, items_located, list_located, links_located, pipeline_located, commands_located, command_located, kind_located, elements_located, redirect_located, redirects_located, branches_located, otherwise_located, for_words_located, words_located, clauses_located, word_located, part_located, operator_located, expression_located, operands_located}
+use Rattle.sh_runs.specs.Surroundings.{Surroundings, Located, outside, items_located, list_located, links_located, pipeline_located, commands_located, command_located, kind_located, elements_located, redirect_located, redirects_located, branches_located, otherwise_located, for_words_located, words_located, clauses_located, word_located, part_located, operator_located, expression_located, operands_located}
 use Rattle.sh_domain.specs.declared.rule.FlowRule.{FlowRule}
 use Rattle.sh_domain.specs.declared.rule.FlowRule.TheVariants.{F1, F2, F3, F6, F7, F8, F9, F10, F11, F13}
 use Rattle.sh_domain.specs.Admitted.{IsAdmitted}

@@ -12,7 +12,7 @@ use Rattle.sh_tree.specs.Lists.{commands_from, items_from, links_from, redirects
 use Rattle.sh_tree.specs.standard.program.Syntax as p
 use Rattle.sh_tree.specs.standard.program.Trees as trees
 use Rattle.sh_tree.specs.standard.program.Trees.{script_of}
-use Rattle.sh_table.specs.Calls.{table_of}
+use Rattle.sh_runs.specs.Calls.{table_of}
 use Rattle.sh_domain.specs.declared.certificate.Certificate as kept
 use Rattle.sh_domain.specs.declared.rule.FlowRule.{FlowRule}
 use Rattle.sh_domain.specs.declared.rule.FlowRule.TheVariants.{F2}

@@ -9,10 +9,11 @@ use Rattle.sh_tree.specs.standard.program.Trees.{script_of}
 use Rattle.sh_table.specs.declared.site.Site as site
 use Rattle.sh_table.specs.declared.table.Row as row
 use Rattle.sh_table.specs.Admits.{Admits, form_rule, rule_of, refused_site, or_refused, first_of, refusal_of, told_from}
-use Rattle.sh_table.specs.Calls.{Table, Row, row_of, row_in, table_of}
-use Rattle.sh_table.specs.Profile.{Static, Refused, first_refused}
-use Rattle.sh_table.specs.Sites.{Form, Simple, Defines, Other, Site, statics, sites_of}
-use Rattle.sh_table.specs.Surroundings.{Surroundings}
+use Rattle.sh_runs.specs.Calls.{Table, Row, row_of, table_of}
+use Rattle.sh_table.specs.KeptTable.{row_in}
+use Rattle.sh_runs.specs.Profile.{Static, Refused, first_refused}
+use Rattle.sh_runs.specs.Sites.{Form, Simple, Defines, Other, Site, statics, sites_of}
+use Rattle.sh_runs.specs.Surroundings.{Surroundings}
 use Rattle.sh_table.specs.Walks.{Outline, shape_of, outline_of, seen}
 use Rattle.sh_table.specs.WordTexts.{text_in}
 use Rattle.sh_table.proofs.RuleLemmas.{rule_of_words, first_by_number}

@@ -18,10 +18,11 @@ use Rattle.sh_tree.specs.standard.program.Trees as trees
 use Rattle.sh_tree.specs.standard.program.Trees.{script_of}
 use Rattle.sh_tree.specs.standard.program.Words.{operands_in, static_of, words_in}
 use Rattle.sh_tree.proofs.ProgramRules as rules
-use Rattle.sh_table.specs.Calls.{Row, defined, row_of, row_in}
+use Rattle.sh_runs.specs.Calls.{Row, defined, row_of}
+use Rattle.sh_table.specs.KeptTable.{row_in}
 use Rattle.sh_table.specs.Found.{Definition, Found, definition_of, with_command, definition_in, found_in, row_at, defined_by}
-use Rattle.sh_table.specs.Sites.{Simple, Site, site_of, form_of, statics, by_number, sites_of}
-use Rattle.sh_table.specs.Surroundings.{Located, outside, items_located}
+use Rattle.sh_runs.specs.Sites.{Simple, Site, site_of, form_of, statics, by_number, sites_of}
+use Rattle.sh_runs.specs.Surroundings.{Located, outside, items_located}
 use Rattle.sh_table.specs.Walks.{form_in, site_in, located}
 use Rattle.sh_table.specs.WordTexts.{text_in}
 use Rattle.sh_table.specs.declared.functions.Definition as declared

@@ -6,12 +6,13 @@ use Rattle.std.specs.List.{list_all}
 use Rattle.sh_tree.specs.standard.program.Syntax as p
 use Rattle.sh_tree.specs.declared.tree.Script.{Script}
 use Rattle.sh_tree.specs.standard.program.Trees.{script_of}
-use Rattle.sh_table.specs.Calls.{Table, row_in, row_of, table_of, texts_with}
+use Rattle.sh_runs.specs.Calls.{Table, row_of, table_of, texts_with}
+use Rattle.sh_table.specs.KeptTable.{row_in}
 use Rattle.sh_table.specs.declared.table.Row as declared
-use Rattle.sh_table.specs.Numbering.{numbers_differ, is_numbered, precedes, numbers_rise}
-use Rattle.sh_table.specs.Profile.{Static}
-use Rattle.sh_table.specs.Sites.{Site, site_of, statics, placed, by_number, sites_of}
-use Rattle.sh_table.specs.Surroundings.{outside, items_located}
+use Rattle.sh_runs.specs.Numbering.{numbers_differ, is_numbered, precedes, numbers_rise}
+use Rattle.sh_runs.specs.Profile.{Static}
+use Rattle.sh_runs.specs.Sites.{Site, site_of, statics, placed, by_number, sites_of}
+use Rattle.sh_runs.specs.Surroundings.{outside, items_located}
 
 abbrev texts_of : ℕ → List Site → List Static
 texts_of n ss = texts_with n (map row_of ss)

@@ -4,10 +4,10 @@ use Rattle.std.specs.List.{list_all, list_any}
 use Rattle.std.proofs.lemmas.Bool.Decides.{nat_tests}
 use Rattle.sh_tree.specs.standard.language.Bytes.{decimal}
 use Rattle.sh_tree.specs.standard.program.Syntax.{Text}
-use Rattle.sh_table.specs.Profile.{has_inner_o}
-use Rattle.sh_table.specs.standard.runs.Numbers.{is_number, number_in}
-use Rattle.sh_table.specs.standard.runs.Operands.{ends_in_o}
-use Rattle.sh_table.specs.standard.runs.Rows.{is_count}
+use Rattle.sh_runs.specs.Profile.{has_inner_o}
+use Rattle.sh_runs.specs.standard.runs.Numbers.{is_number, number_in}
+use Rattle.sh_runs.specs.standard.runs.Operands.{ends_in_o}
+use Rattle.sh_runs.specs.standard.runs.Rows.{is_count}
 
 -- a test of each of a row
 pub all_in : {A B : Type 0} (p : B → Bool) (f : A → B) (xs : List A) → list_all (λ x. p (f x)) xs ≡ list_all p (map f xs)

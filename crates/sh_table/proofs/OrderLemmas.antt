@@ -7,7 +7,7 @@ use Rattle.std.proofs.lemmas.Option.{same_Some}
 use Rattle.std.specs.List.{cons_option, filter, filter_map}
 use Rattle.std.specs.List.Sorted.{IsNonDecreasingBy, IsStableByKey}
 use Rattle.std.specs.Ordering.{nat_cmp, is_lt}
-use Rattle.sh_table.specs.Sites.{Site, placed, by_number}
+use Rattle.sh_runs.specs.Sites.{Site, placed, by_number}
 
 -- each has at least this number
 abbrev pub Above : {A : Type 0} → (A → ℕ) → ℕ → List A → Type 0

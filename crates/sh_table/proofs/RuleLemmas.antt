@@ -10,9 +10,9 @@ use Rattle.sh_tree.specs.standard.program.Syntax as p
 use Rattle.sh_tree.specs.standard.program.Syntax.{Text}
 use Rattle.sh_tree.specs.standard.program.Words.{static_of, words_in, is_pattern, is_plainly, part_text}
 use Rattle.sh_table.specs.Admits.{text_rule, form_rule, refused_site, or_refused, first_of}
-use Rattle.sh_table.specs.Profile.{Static, Refused, named_rule, words_rule, command_rule, refused_at, least_refused, first_refused}
-use Rattle.sh_table.specs.Sites.{Site, site_of, form_of, placed, by_number, sites_of}
-use Rattle.sh_table.specs.Surroundings.{Surroundings, Located, outside, items_located}
+use Rattle.sh_runs.specs.Profile.{Static, Refused, named_rule, words_rule, command_rule, refused_at, least_refused, first_refused}
+use Rattle.sh_runs.specs.Sites.{Site, site_of, form_of, placed, by_number, sites_of}
+use Rattle.sh_runs.specs.Surroundings.{Surroundings, Located, outside, items_located}
 use Rattle.sh_table.specs.Walks.{is_plain, is_quoted}
 use Rattle.sh_table.proofs.OrderLemmas.{Above, Rises, number_of, rises_by_number}
 

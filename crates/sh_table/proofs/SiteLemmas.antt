@@ -21,8 +21,8 @@ use Rattle.sh_tree.specs.standard.program.Words.{operands_in}
 use Rattle.sh_tree.proofs.ProgramRules as rules
 use Rattle.sh_table.specs.declared.site.Around.{Around}
 use Rattle.sh_table.specs.declared.site.Site as site
-use Rattle.sh_table.specs.Sites.{Site, Simple, Defines, Other, site_of, form_of, by_number, sites_of}
-use Rattle.sh_table.specs.Surroundings.{Located, outside, items_located}
+use Rattle.sh_runs.specs.Sites.{Site, Simple, Defines, Other, site_of, form_of, by_number, sites_of}
+use Rattle.sh_runs.specs.Surroundings.{Located, outside, items_located}
 use Rattle.sh_table.specs.Walks.{Outline, is_plain, is_quoted, outline_of, seen, is_lone_plain, form_in, site_in, located, with_outline}
 use Rattle.sh_table.proofs.OrderLemmas.{all_made_in_order}
 

@@ -13,13 +13,14 @@ use Rattle.sh_tree.specs.standard.program.Syntax.{Text}
 use Rattle.sh_tree.specs.standard.program.Trees.{script_of}
 use Rattle.sh_table.specs.declared.table.Row as declared
 use Rattle.sh_table.specs.declared.word_text.WordText.{WordText}
-use Rattle.sh_table.specs.Calls.{Functions, Table, Row, IsKept, defined, with_name, names_of, functions_of, row_of, row_in, table_in, table_of, texts_with, static_at, text_at, called, callee_at, first_row, found_texts}
-use Rattle.sh_table.specs.standard.Kinds.{kind_of, is_special}
-use Rattle.sh_table.specs.Profile.{Static}
-use Rattle.sh_table.specs.Sites.{Site, sites_of}
+use Rattle.sh_runs.specs.Calls.{Functions, Table, Row, defined, with_name, names_of, functions_of, row_of, table_of, texts_with, static_at, text_at, called, callee_at}
+use Rattle.sh_table.specs.KeptTable.{IsKept, row_in, table_in, first_row, found_texts}
+use Rattle.sh_runs.specs.standard.Kinds.{kind_of, is_special}
+use Rattle.sh_runs.specs.Profile.{Static}
+use Rattle.sh_runs.specs.Sites.{Site, sites_of}
 use Rattle.sh_table.specs.WordTexts.{text_in}
-use Rattle.sh_table.specs.standard.runs.Environment.{is_one_of}
-use Rattle.sh_table.proofs.FunctionLemmas.{place_later}
+use Rattle.sh_runs.specs.standard.runs.Environment.{is_one_of}
+use Rattle.sh_runs.proofs.PositionLemmas.{place_later}
 use Rattle.sh_table.proofs.OrderLemmas.{Above, Rises, number_of, rises_by_number}
 
 -- the numbers of rows rise as those of the commands

@@ -41,7 +41,7 @@ use Rattle.sh_tree.specs.standard.program.Syntax as p
 use Rattle.sh_tree.specs.standard.program.Trees as trees
 use Rattle.sh_tree.proofs.ProgramRules as rules
 use Rattle.sh_table.specs.declared.site.Around.{Around}
-use Rattle.sh_table.specs.Surroundings.{Located, in_part, in_item, items_located, list_located, links_located, pipeline_located, commands_located, command_located, kind_located, elements_located, redirect_located, redirects_located, branches_located, otherwise_located, for_words_located, words_located, clauses_located, word_located, part_located, operator_located, expression_located, operands_located}
+use Rattle.sh_runs.specs.Surroundings.{Located, in_part, in_item, items_located, list_located, links_located, pipeline_located, commands_located, command_located, kind_located, elements_located, redirect_located, redirects_located, branches_located, otherwise_located, for_words_located, words_located, clauses_located, word_located, part_located, operator_located, expression_located, operands_located}
 use Rattle.sh_table.specs.Walks.{around, outer, inside_loop, inside_function, round_parts, round_item, of_script, of_item, of_and_or, of_link, of_pipe, of_command, of_kind, of_element, of_target, of_redirect, of_part, of_word, of_operator, of_expression, of_step, of_branch, of_clause, of_option, located}
 
 -- round items and parts

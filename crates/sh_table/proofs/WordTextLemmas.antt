@@ -19,10 +19,10 @@ use Rattle.sh_tree.specs.standard.program.Syntax.{Text}
 use Rattle.sh_tree.specs.standard.program.Words.{operands_in, static_of, words_in}
 use Rattle.sh_tree.proofs.ProgramRules as rules
 use Rattle.sh_tree.proofs.ProgramWords.{static_of_parts}
-use Rattle.sh_table.specs.Sites.{Simple, statics}
+use Rattle.sh_runs.specs.Sites.{Simple, statics}
 use Rattle.sh_tree.specs.standard.Words.{static_text, is_wildcard, is_pattern, has_wildcard, has_bracket, is_bracket, parts_text, part_text, part_text-Double, single_text, behind_first, between_ends}
 use Rattle.sh_table.specs.WordTexts.{may_match, has_pattern, plain_text, plain_span, lone_part, text_in, texts_of}
-use Rattle.sh_table.specs.Profile.{Static}
+use Rattle.sh_runs.specs.Profile.{Static}
 use Rattle.sh_table.specs.declared.word_text.WordText.{WordText}
 
 -- a byte is a wildcard or a bracket

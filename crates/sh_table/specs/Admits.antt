@@ -11,10 +11,10 @@ use Rattle.sh_tree.specs.standard.program.Syntax as p
 use Rattle.sh_tree.specs.standard.program.Syntax.{Text}
 use Rattle.sh_table.specs.declared.site.Site as site
 use Rattle.sh_table.specs.declared.table.Row as row
-use Rattle.sh_table.specs.standard.Kinds.{kind_of}
-use Rattle.sh_table.specs.Profile.{Static, Refused, unless, or_rule, kind_rule, words_rule, told_name, function_rule, is_append, first_refused}
-use Rattle.sh_table.specs.Sites.{Form, Simple, Defines, Other, Site}
-use Rattle.sh_table.specs.Surroundings.{Surroundings}
+use Rattle.sh_runs.specs.standard.Kinds.{kind_of}
+use Rattle.sh_runs.specs.Profile.{Static, Refused, unless, or_rule, kind_rule, words_rule, told_name, function_rule, is_append, first_refused}
+use Rattle.sh_runs.specs.Sites.{Form, Simple, Defines, Other, Site}
+use Rattle.sh_runs.specs.Surroundings.{Surroundings}
 use Rattle.sh_table.specs.Walks.{Shape, Called, Named, Compound, around, seen_form}
 use Rattle.sh_table.specs.WordTexts.{text_in}
 

@@ -5,9 +5,10 @@ use Rattle.std.specs.List.{filter_map}
 use Rattle.sh_tree.specs.declared.tree.Command.{Command, out-Command}
 use Rattle.sh_tree.specs.standard.program.Syntax.{Text}
 use Rattle.sh_tree.specs.standard.Tree.{text_of}
-use Rattle.sh_table.specs.Calls.{Row, Functions, defined, row_of, row_in, with_definition}
-use Rattle.sh_table.specs.Sites.{Form, Site, site_of, statics}
-use Rattle.sh_table.specs.Surroundings.{Located}
+use Rattle.sh_runs.specs.Calls.{Row, Functions, defined, row_of}
+use Rattle.sh_table.specs.KeptTable.{row_in, with_definition}
+use Rattle.sh_runs.specs.Sites.{Form, Site, site_of, statics}
+use Rattle.sh_runs.specs.Surroundings.{Located}
 use Rattle.sh_table.specs.Walks.{form_in}
 use Rattle.sh_table.specs.declared.functions.Definition as declared
 use Rattle.sh_table.specs.declared.table.Row as row

@@ -1,16 +1,5 @@
-pub mod standard
-pub mod Surroundings
-pub mod Profile
-pub mod Admitted
-pub mod Sites
 pub mod Admits
-pub mod Calls
-pub mod Numbering
 pub mod Walks
 pub mod Found
+pub mod KeptTable
 pub mod WordTexts
-pub mod Counts
-pub mod Quoting
-pub mod Theorem
-pub mod Rows
-pub mod examples

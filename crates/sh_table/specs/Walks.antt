@@ -27,8 +27,8 @@ use Rattle.sh_tree.specs.standard.program.Trees as trees
 use Rattle.sh_table.specs.declared.site.Around.{Around}
 use Rattle.sh_table.specs.declared.site.Form as declared
 use Rattle.sh_table.specs.declared.site.Site as site
-use Rattle.sh_table.specs.Sites.{Form, Simple, Defines, Other, Site, site_of, form_of}
-use Rattle.sh_table.specs.Surroundings.{Surroundings, Located, items_located, list_located, pipeline_located, command_located, kind_located, elements_located, redirect_located, part_located, operator_located, expression_located}
+use Rattle.sh_runs.specs.Sites.{Form, Simple, Defines, Other, Site, site_of, form_of}
+use Rattle.sh_runs.specs.Surroundings.{Surroundings, Located, items_located, list_located, pipeline_located, command_located, kind_located, elements_located, redirect_located, part_located, operator_located, expression_located}
 
 abbrev pub around : Around → Surroundings
 around x = record { loop = x.in_loop; function = x.in_function }

@@ -13,7 +13,7 @@ use Rattle.sh_tree.specs.Lists.{element_from}
 use Rattle.sh_tree.specs.standard.program.Syntax as p
 use Rattle.sh_tree.specs.standard.program.Syntax.{Text}
 use Rattle.sh_tree.specs.standard.program.Words.{operands_in, static_of, words_in}
-use Rattle.sh_table.specs.Profile.{Static}
+use Rattle.sh_runs.specs.Profile.{Static}
 use Rattle.sh_table.specs.declared.word_text.WordText.{WordText}
 use Rattle.sh_table.specs.declared.word_text.WordText.TheVariants.{Computed, Verbatim, Made}
 

@@ -4,9 +4,10 @@ ghost use Rattle.std.specs.List.{filter_map};
 ghost use Rattle.sh_tree.specs.standard.Tree.{text_of};
 ghost use Rattle.sh_tree.specs.declared.tree.Command.{out-Command};
 ghost use Rattle.sh_tree.specs.standard.program.Trees.{script_of};
-ghost use Rattle.sh_table.specs.Calls as calls;
+ghost use Rattle.sh_runs.specs.Calls as calls;
+ghost use Rattle.sh_table.specs.KeptTable as kept;
 ghost use Rattle.sh_table.specs.Found as spec;
-ghost use Rattle.sh_table.specs.Sites as sites;
+ghost use Rattle.sh_runs.specs.Sites as sites;
 ghost use Rattle.sh_table.specs.Walks as walks;
 
 use crate::functions::Definition;
@@ -31,7 +32,7 @@ fn add_row(
     script: &[u8],
     rows: &mut Vec<Row>,
 ) -> Result<(), AllocError>
-    ensures { OnOk result (map (calls.row_in script.now) rows.new.items ≡ map (calls.row_in script.now) rows.old.items ++ spec.row_at script.now command.now ∷ []) }
+    ensures { OnOk result (map (kept.row_in script.now) rows.new.items ≡ map (kept.row_in script.now) rows.old.items ++ spec.row_at script.now command.now ∷ []) }
 {
     let texts = texts_of(alloc, command.elements(), script)?;
     rows.push(Row {
@@ -42,7 +43,7 @@ fn add_row(
 }
 
 /// The name of the function that a command defines.
-#[tactic(auto, using(crate::proofs::SiteLemmas::forms), unfolding(crate::specs::Calls::defined))]
+#[tactic(auto, using(crate::proofs::SiteLemmas::forms), unfolding(sh_runs::specs::Calls::defined))]
 fn defined_name(kind: &Kind) -> Option<Span>
     ensures { (b : List ℕ) → option_map (text_of b) result ≡ calls.defined (walks.form_in b kind.now) }
 {
@@ -95,7 +96,7 @@ impl Visitor for Found {
 
 /// Puts rows in the order of their commands' numbers.
 fn sort_rows(rows: &mut Vec<Row>) -> Result<(), AllocError>
-    ensures { (b : List ℕ) (ss : List sites.Site) → map (calls.row_in b) rows.old.items ≡ map calls.row_of ss → OnOk result (map (calls.row_in b) rows.new.items ≡ map calls.row_of (sites.by_number ss)) }
+    ensures { (b : List ℕ) (ss : List sites.Site) → map (kept.row_in b) rows.old.items ≡ map calls.row_of ss → OnOk result (map (kept.row_in b) rows.new.items ≡ map calls.row_of (sites.by_number ss)) }
 {
     rows.sort_by_key(|row| row.number)?;
     Ok(())
@@ -116,7 +117,7 @@ impl Found {
     ///
     /// `AllocError` if a growth was refused.
     pub fn new(alloc: Global, tree: &Script, script: &[u8]) -> Result<Found, AllocError>
-        ensures rows { IfOk result (λ found. map (calls.row_in script.now) found.rows.items ≡ map calls.row_of (sites.sites_of (script_of script.now tree.now))) }
+        ensures rows { IfOk result (λ found. map (kept.row_in script.now) found.rows.items ≡ map calls.row_of (sites.sites_of (script_of script.now tree.now))) }
         ensures definitions { IfOk result (λ found. map (spec.definition_in script.now) found.definitions.items ≡ filter_map spec.definition_of (sites.sites_of (script_of script.now tree.now))) }
     {
         let mut found = Found {

@@ -2,9 +2,10 @@
 ghost use Rattle.std.specs.Prelude.{◌≡◌, ◌<◌, List, length, map, IfOk, IfSome, OnOk, None, Some, slice_get};
 ghost use Rattle.std.specs.List.{filter_map, position_from};
 ghost use Rattle.std.specs.Str.{bytes_eq};
-ghost use Rattle.sh_table.specs.Calls.{functions_of, with_definition};
+ghost use Rattle.sh_runs.specs.Calls.{functions_of};
+ghost use Rattle.sh_table.specs.KeptTable.{with_definition};
 ghost use Rattle.sh_table.specs.Found as found;
-ghost use Rattle.sh_table.specs.Sites.{Site};
+ghost use Rattle.sh_runs.specs.Sites.{Site};
 
 use indexmap::IndexSet;
 use sh_tree::Span;
@@ -29,11 +30,12 @@ pub struct Functions {
 
 impl Model for Functions {
     ghost use Rattle.std.specs.Prelude.{◌≤◌, length};
-    ghost use Rattle.sh_table.specs.Calls as calls;
+    ghost use Rattle.sh_runs.specs.Calls as calls;
+    ghost use Rattle.sh_table.specs.KeptTable as kept;
 
     ghost Value = { calls.Functions };
 
-    ghost view = { λ f. calls.functions_in f.names.keys f.definitions.items };
+    ghost view = { λ f. kept.functions_in f.names.keys f.definitions.items };
 
     ghost invariant = { λ f. length f.names.keys ≤ length f.definitions.items };
 }

@@ -2,14 +2,14 @@
 ghost use Rattle.std.specs.Prelude.{◌≡◌, drop, map, is_some, option_map, Some, nat_lt, false};
 ghost use Rattle.std.specs.List.{list_all, list_any};
 ghost use Rattle.sh_tree.specs.standard.language.Bytes as bytes;
-ghost use Rattle.sh_table.specs.Profile as profile;
+ghost use Rattle.sh_runs.specs.Profile as profile;
 ghost use Rattle.sh_table.specs.WordTexts.{text_in};
-ghost use Rattle.sh_table.specs.standard.runs.Numbers as numbers;
-ghost use Rattle.sh_table.specs.standard.runs.Operands as operands;
-ghost use Rattle.sh_table.specs.standard.runs.Rows as rows;
+ghost use Rattle.sh_runs.specs.standard.runs.Numbers as numbers;
+ghost use Rattle.sh_runs.specs.standard.runs.Operands as operands;
+ghost use Rattle.sh_runs.specs.standard.runs.Rows as rows;
 
-use crate::kind::{Kind, kind_of};
 use crate::word_text::WordText;
+use sh_runs::{Kind, ends_options, is_dashed, kind_of};
 use sh_tree::{is_digit, name_length};
 
 fn are_digits(text: &[u8]) -> bool
@@ -19,7 +19,7 @@ fn are_digits(text: &[u8]) -> bool
 }
 
 /// Whether the text is a decimal numeral.
-#[tactic(auto, unfolding(crate::specs::standard::runs::Numbers::is_number))]
+#[tactic(auto, unfolding(sh_runs::specs::standard::runs::Numbers::is_number))]
 pub fn is_number(text: &[u8]) -> bool
     ensures { result ≡ numbers.is_number text.now }
 {
@@ -43,7 +43,7 @@ fn is_count(text: &[u8]) -> bool
     is_number(text) && is_not_zero(text)
 }
 
-#[tactic(auto, unfolding(crate::specs::standard::runs::Rows::is_count))]
+#[tactic(auto, unfolding(sh_runs::specs::standard::runs::Rows::is_count))]
 fn holds_count(operand: &WordText, script: &[u8]) -> bool
     ensures { result ≡ rows.is_count (text_in script.now operand.now) }
 {
@@ -85,7 +85,7 @@ pub fn are_static(words: &[WordText], script: &[u8]) -> bool
     each_static(words, script)
 }
 
-#[tactic(auto, unfolding(crate::specs::standard::runs::Rows::is_no_action, crate::specs::standard::runs::Numbers::number_in))]
+#[tactic(auto, unfolding(sh_runs::specs::standard::runs::Rows::is_no_action, sh_runs::specs::standard::runs::Numbers::number_in))]
 fn is_no_action(words: &[WordText], script: &[u8]) -> bool
     ensures { result ≡ rows.is_no_action (map (text_in script.now) words.now) }
 {
@@ -99,7 +99,7 @@ fn is_no_action(words: &[WordText], script: &[u8]) -> bool
 }
 
 /// Whether `trap` is given no action (XCU 2.15, trap).
-#[tactic(auto, unfolding(crate::specs::standard::runs::Rows::traps_nothing))]
+#[tactic(auto, unfolding(sh_runs::specs::standard::runs::Rows::traps_nothing))]
 pub fn traps_nothing(words: &[WordText], script: &[u8]) -> bool
     ensures { result ≡ rows.traps_nothing (map (text_in script.now) words.now) }
 {
@@ -113,7 +113,7 @@ pub fn traps_nothing(words: &[WordText], script: &[u8]) -> bool
 }
 
 /// Whether `command` may run what has this kind (XCU 3, command).
-#[tactic(auto, unfolding(crate::specs::standard::runs::Rows::may_run))]
+#[tactic(auto, unfolding(sh_runs::specs::standard::runs::Rows::may_run))]
 fn may_run(kind: Kind) -> bool
     ensures { result ≡ rows.may_run kind }
 {
@@ -130,7 +130,7 @@ fn may_run(kind: Kind) -> bool
     }
 }
 
-#[tactic(auto, unfolding(crate::specs::standard::runs::Rows::runs_utility))]
+#[tactic(auto, unfolding(sh_runs::specs::standard::runs::Rows::runs_utility))]
 fn runs_utility(words: &[WordText], script: &[u8]) -> bool
     ensures { result ≡ rows.runs_utility (map (text_in script.now) words.now) }
 {
@@ -141,21 +141,6 @@ fn runs_utility(words: &[WordText], script: &[u8]) -> bool
             Some(name) => may_run(kind_of(name)),
         },
     }
-}
-
-/// Whether the text is `--`, which ends the options (XBD 12.2).
-pub fn ends_options(text: &[u8]) -> bool
-    ensures { result ≡ operands.ends_options text.now }
-{
-    matches!(text, b"--")
-}
-
-/// Whether the text is `-` and more, as options are (XBD 12.2).
-#[tactic(auto, unfolding(crate::specs::standard::runs::Operands::is_dashed))]
-pub fn is_dashed(text: &[u8]) -> bool
-    ensures { result ≡ operands.is_dashed text.now }
-{
-    matches!(text, [b'-', _, ..])
 }
 
 fn is_command_letter(byte: u8) -> bool
@@ -187,7 +172,7 @@ fn describes(text: &[u8]) -> bool
 }
 
 /// Whether `command` runs what the profile admits (XCU 3, command).
-#[tactic(auto, unfolding(crate::specs::standard::runs::Rows::commands_utility))]
+#[tactic(auto, unfolding(sh_runs::specs::standard::runs::Rows::commands_utility))]
 pub fn commands_utility(words: &[WordText], script: &[u8]) -> bool
     ensures { result ≡ rows.commands_utility (map (text_in script.now) words.now) }
 {
@@ -247,7 +232,7 @@ fn is_signed(text: &[u8]) -> bool
 }
 
 /// Whether the text is `-` or `+` and more, as options of `set` are (XCU 2.15, set).
-#[tactic(auto, unfolding(crate::specs::standard::runs::Operands::is_set_option))]
+#[tactic(auto, unfolding(sh_runs::specs::standard::runs::Operands::is_set_option))]
 pub fn is_set_option(text: &[u8]) -> bool
     ensures { result ≡ operands.is_set_option text.now }
 {
@@ -264,7 +249,7 @@ fn has_inner_letter_o(text: &[u8]) -> bool
 }
 
 /// Whether the options of `set` are known, and what follows them (XCU 2.15, set).
-#[tactic(auto, unfolding(crate::specs::Profile::sets_known))]
+#[tactic(auto, unfolding(sh_runs::specs::Profile::sets_known))]
 pub fn sets_known(words: &[WordText], script: &[u8]) -> bool
     ensures { result ≡ profile.sets_known false (map (text_in script.now) words.now) }
 {
@@ -294,20 +279,6 @@ pub fn sets_known(words: &[WordText], script: &[u8]) -> bool
         rest = others;
     }
     true
-}
-
-/// The name and the value, if the text is a name, `=` and a value: an assignment in form
-/// (XCU 2.10.2, rule 7).
-#[tactic(auto, unfolding(crate::specs::standard::runs::Operands::definition_in, sh_tree::specs::standard::language::Commands::is_assignment, sh_tree::specs::standard::language::Bytes::is_first))]
-pub fn definition_in(text: &[u8]) -> Option<(&[u8], &[u8])>
-    ensures { option_map (λ d. (d.0.now, d.1.now)) result ≡ operands.definition_in text.entry.now }
-{
-    let length = name_length(text);
-    if length > 0 && text[length..].starts_with(b"=") {
-        Some((&text[..length], &text[length + 1..]))
-    } else {
-        None
-    }
 }
 
 /// Whether a name and `+=` are at the front, which other shells read as an assignment.

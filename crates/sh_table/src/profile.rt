@@ -2,7 +2,7 @@
 ghost use Rattle.std.specs.Prelude.{◌≡◌};
 ghost use Rattle.sh_tree.specs.standard.program.Trees.{script_of};
 ghost use Rattle.sh_table.specs.Admits as admits;
-ghost use Rattle.sh_table.specs.Calls as calls;
+ghost use Rattle.sh_runs.specs.Calls as calls;
 
 use crate::rules::site_rule;
 use crate::site::Site;

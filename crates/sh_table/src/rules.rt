@@ -1,23 +1,23 @@
 //! The rule of the profile that a command breaks.
 ghost use Rattle.std.specs.Prelude.{◌≡◌, Bool, not, map};
 ghost use Rattle.sh_table.specs.Admits as admits;
-ghost use Rattle.sh_table.specs.standard.Kinds as kinds;
-ghost use Rattle.sh_table.specs.Profile as profile;
+ghost use Rattle.sh_runs.specs.standard.Kinds as kinds;
+ghost use Rattle.sh_runs.specs.Profile as profile;
 ghost use Rattle.sh_table.specs.Walks as walks;
 ghost use Rattle.sh_table.specs.WordTexts.{text_in};
-ghost use Rattle.sh_table.specs.standard.runs.Rows as rows;
-ghost use Rattle.sh_table.specs.declared.kind.Kind.TheVariants as kind;
+ghost use Rattle.sh_runs.specs.standard.runs.Rows as rows;
+ghost use Rattle.sh_runs.specs.declared.kind.Kind.TheVariants as kind;
 
-use crate::kind::{Kind, kind_of};
 use crate::operands::{
     are_counts, are_static, commands_utility, is_append, sets_known, traps_nothing,
 };
 use crate::site::{Around, Form, Site};
 use crate::word_text::WordText;
+use sh_runs::{Kind, kind_of};
 use sh_tree::{Declaration, KnownName, Rule};
 
 /// The rule, unless the test holds.
-#[tactic(auto, unfolding(crate::specs::Profile::unless))]
+#[tactic(auto, unfolding(sh_runs::specs::Profile::unless))]
 fn unless(holds: bool, rule: Rule) -> Option<Rule>
     ensures { result ≡ profile.unless holds rule }
 {
@@ -25,7 +25,7 @@ fn unless(holds: bool, rule: Rule) -> Option<Rule>
 }
 
 /// Whether other shells reserve the word, which is a utility if it is quoted.
-#[tactic(auto, unfolding(crate::specs::standard::runs::Rows::is_reserved_elsewhere))]
+#[tactic(auto, unfolding(sh_runs::specs::standard::runs::Rows::is_reserved_elsewhere))]
 fn is_reserved_elsewhere(name: KnownName) -> bool
     ensures { result ≡ rows.is_reserved_elsewhere name }
 {
@@ -40,7 +40,7 @@ fn is_reserved_elsewhere(name: KnownName) -> bool
     }
 }
 
-#[tactic(auto, unfolding(crate::specs::Profile::or_rule))]
+#[tactic(auto, unfolding(sh_runs::specs::Profile::or_rule))]
 fn count_rule(counts: bool, operand: Rule, inside: bool, outside: Rule) -> Option<Rule>
     ensures { result ≡ profile.or_rule (profile.unless counts operand) (profile.unless inside outside) }
 {
@@ -50,7 +50,7 @@ fn count_rule(counts: bool, operand: Rule, inside: bool, outside: Rule) -> Optio
     }
 }
 
-#[tactic(auto, unfolding(crate::specs::Profile::kind_rule))]
+#[tactic(auto, unfolding(sh_runs::specs::Profile::kind_rule))]
 fn special_rule(
     around: Around,
     quoted: bool,
@@ -85,7 +85,7 @@ fn special_rule(
     }
 }
 
-#[tactic(auto, unfolding(crate::specs::Profile::kind_rule))]
+#[tactic(auto, unfolding(sh_runs::specs::Profile::kind_rule))]
 fn kind_rule(
     around: Around,
     quoted: bool,
@@ -108,7 +108,7 @@ fn kind_rule(
     }
 }
 
-#[tactic(auto, unfolding(crate::specs::Profile::or_rule))]
+#[tactic(auto, unfolding(sh_runs::specs::Profile::or_rule))]
 fn named_rule(
     around: Around,
     quoted: bool,
@@ -137,7 +137,7 @@ fn text_rule(around: Around, quoted: bool, texts: &[WordText], script: &[u8]) ->
     }
 }
 
-#[tactic(auto, unfolding(crate::specs::Profile::function_rule, crate::specs::Profile::told_name))]
+#[tactic(auto, unfolding(sh_runs::specs::Profile::function_rule, sh_runs::specs::Profile::told_name))]
 fn function_rule(name: &[u8]) -> Option<Rule>
     ensures { result ≡ profile.function_rule (profile.told_name (kinds.kind_of name.now)) }
 {

@@ -4,7 +4,7 @@ ghost use Rattle.std.specs.Prelude.{◌≡◌, ℕ, List, map, OnOk, IfOk};
 ghost use Rattle.sh_tree.specs.Lists.{elements_from};
 ghost use Rattle.sh_tree.specs.standard.program.Trees.{script_of};
 ghost use Rattle.sh_tree.specs.standard.program.Words.{operands_in};
-ghost use Rattle.sh_table.specs.Sites as sites;
+ghost use Rattle.sh_runs.specs.Sites as sites;
 ghost use Rattle.sh_table.specs.Walks as walks;
 
 use crate::site::{Around, Form, Site};

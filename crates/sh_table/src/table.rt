@@ -3,18 +3,19 @@ ghost use Rattle.std.specs.Prelude.{◌≡◌, ℕ, List, true, ◌<◌, ◌≤�
 ghost use Rattle.std.specs.List.{position_from};
 ghost use Rattle.std.specs.Option.{option_copied};
 ghost use Rattle.std.specs.Str.{bytes_eq};
-ghost use Rattle.sh_table.specs.Calls as calls;
+ghost use Rattle.sh_runs.specs.Calls as calls;
+ghost use Rattle.sh_table.specs.KeptTable as kept;
 ghost use Rattle.sh_table.specs.declared.table.Row as declared;
 ghost use Rattle.sh_tree.specs.declared.tree.Script.{Script};
 ghost use Rattle.sh_tree.specs.standard.program.Trees.{script_of};
-ghost use Rattle.sh_table.specs.Numbering as numbering;
+ghost use Rattle.sh_runs.specs.Numbering as numbering;
 ghost use Rattle.sh_table.specs.WordTexts.{text_in};
-ghost use Rattle.sh_table.specs.standard.runs.Environment.{is_one_of};
+ghost use Rattle.sh_runs.specs.standard.runs.Environment.{is_one_of};
 
 use crate::found::Found;
 use crate::functions::Functions;
-use crate::kind::kind_of;
 use crate::word_text::WordText;
+use sh_runs::kind_of;
 use sh_tree::{MAX_COMMANDS, Refusal, Script};
 use std::alloc::Global;
 use std::marker::Model;
@@ -39,18 +40,19 @@ impl<'s> Model for CallTable<'s> {
     ghost use Rattle.std.specs.Prelude.{◌≤◌, length, map};
     ghost use Rattle.std.specs.List.Sorted.{IsNonDecreasingBy};
     ghost use Rattle.sh_tree.specs.declared.limits.TheConstants.{MAX_COMMANDS};
-    ghost use Rattle.sh_table.specs.Calls as calls;
+    ghost use Rattle.sh_runs.specs.Calls as calls;
+    ghost use Rattle.sh_table.specs.KeptTable as kept;
 
     ghost Value = { calls.Table };
 
-    ghost view = { λ t. calls.table_in t.script.now t.functions t.rows.items };
+    ghost view = { λ t. kept.table_in t.script.now t.functions t.rows.items };
 
-    ghost invariant = { λ t. calls.IsKept t.functions t.rows.items };
+    ghost invariant = { λ t. kept.IsKept t.functions t.rows.items };
 }
 
-#[tactic(auto, unfolding(crate::specs::Calls::first_row))]
+#[tactic(auto, unfolding(crate::specs::KeptTable::first_row))]
 fn first_with(rows: &[Row], command: u32) -> Option<&Row>
-    ensures { option_copied result ≡ calls.first_row command rows.entry.now }
+    ensures { option_copied result ≡ kept.first_row command rows.entry.now }
 {
     match rows {
         [] => None,
@@ -76,7 +78,7 @@ fn is_first_at(rows: &[Row], place: usize, command: u32) -> bool
     row.number == command && (place == 0 || rows[place - 1].number < command)
 }
 
-#[tactic(auto, unfolding(crate::specs::Calls::static_at))]
+#[tactic(auto, unfolding(sh_runs::specs::Calls::static_at))]
 fn text_in_row<'a>(row: &'a Row, word: usize, script: &'a [u8]) -> Option<&'a [u8]>
     ensures { option_map (λ s. s.now) result ≡ calls.static_at (map (text_in script.entry.now) row.entry.now.texts.items) word }
 {
@@ -87,7 +89,7 @@ fn text_in_row<'a>(row: &'a Row, word: usize, script: &'a [u8]) -> Option<&'a [u
 }
 
 // Whether the row has a lesser number than the first of these.
-#[tactic(auto, unfolding(crate::specs::Numbering::precedes))]
+#[tactic(auto, unfolding(sh_runs::specs::Numbering::precedes))]
 fn precedes(row: &Row, rows: &[Row]) -> bool
     ensures { result ≡ numbering.precedes row.now.number (map (λ r. r.number) rows.now) }
 {
@@ -98,7 +100,7 @@ fn precedes(row: &Row, rows: &[Row]) -> bool
 }
 
 // Whether each row has a lesser number than the next.
-#[tactic(auto, unfolding(crate::specs::Numbering::numbers_rise))]
+#[tactic(auto, unfolding(sh_runs::specs::Numbering::numbers_rise))]
 fn numbers_rise(rows: &[Row]) -> bool
     ensures { result ≡ numbering.numbers_rise (map (λ r. r.number) rows.now) }
 {
@@ -142,7 +144,7 @@ impl<'s> CallTable<'s> {
 
     /// The commands by their numbers.
     pub fn rows(&self) -> &[Row]
-        ensures { map (calls.row_in self.now.script) result.now ≡ self.now.rows }
+        ensures { map (kept.row_in self.now.script) result.now ≡ self.now.rows }
     {
         self.rows.as_slice()
     }
@@ -150,7 +152,7 @@ impl<'s> CallTable<'s> {
     // The first command with this number. It is at the place of its number, if the commands have all
     // numbers from 1, as those of a script that was read do.
     fn row(&self, command: u32) -> Option<&Row>
-        ensures { calls.found_texts self.now.script (option_copied result) ≡ calls.texts_with command self.now.rows }
+        ensures { kept.found_texts self.now.script (option_copied result) ≡ calls.texts_with command self.now.rows }
     {
         let place = (command as usize).saturating_sub(1);
         if is_first_at(self.rows.as_slice(), place, command) {
@@ -171,7 +173,7 @@ impl<'s> CallTable<'s> {
 
     /// The static texts of the words of a command, the command name's first; none if no simple
     /// command has this number.
-    #[tactic(auto, unfolding(crate::specs::Calls::found_texts))]
+    #[tactic(auto, unfolding(crate::specs::KeptTable::found_texts))]
     pub fn texts(&self, command: u32) -> &[WordText]
         ensures { map (text_in self.now.script) result.now ≡ calls.texts_with command self.now.rows }
     {

@@ -1,7 +1,7 @@
 //! A walk over the commands of a script, those in its words included.
 ghost use Rattle.std.specs.Prelude.{◌≡◌, ◌++◌, ℕ, List, fold, flat_map, OnOk};
 ghost use Rattle.sh_tree.specs.standard.program.Trees.{script_of};
-ghost use Rattle.sh_table.specs.Surroundings.{Located, outside, items_located};
+ghost use Rattle.sh_runs.specs.Surroundings.{Located, outside, items_located};
 ghost use Rattle.sh_table.specs.Walks as walks;
 
 use crate::site::Around;

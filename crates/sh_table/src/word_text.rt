@@ -6,7 +6,7 @@ ghost use Rattle.sh_tree.specs.standard.Tree.{text_of};
 ghost use Rattle.sh_tree.specs.standard.Words as words;
 ghost use Rattle.sh_tree.specs.standard.Words.{static_text};
 ghost use Rattle.sh_tree.specs.Lists.{elements_from};
-ghost use Rattle.sh_table.specs.Sites as sites;
+ghost use Rattle.sh_runs.specs.Sites as sites;
 ghost use Rattle.sh_tree.specs.standard.program.Words.{operands_in};
 ghost use Rattle.sh_table.specs.WordTexts as spec;
 

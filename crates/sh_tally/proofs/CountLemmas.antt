@@ -2,7 +2,7 @@
 use Rattle.std.proofs.Common.{ℕ, ◌*◌, ◌≤◌, max, Bool, true, false, ◌||◌, if◌then◌else◌, List, [], ◌∷◌, ◌++◌, sym, subst, arith}
 use Rattle.std.proofs.Math.Nat.{mul-le-mul_left}
 use Rattle.sh_tree.specs.standard.program.Syntax.{Text}
-use Rattle.sh_table.specs.standard.runs.Environment.{is_one_of}
+use Rattle.sh_runs.specs.standard.runs.Environment.{is_one_of}
 use Rattle.sh_domain.specs.Facts.{Facts, NotReached, Known, facts, meet}
 use Rattle.sh_domain.specs.Gains.{Gains, with_gains}
 use Rattle.sh_domain.specs.Operands.{Names}

@@ -9,14 +9,14 @@ use Rattle.sh_tree.specs.declared.known.KnownName.TheVariants as known
 use Rattle.sh_tree.specs.standard.program.Syntax as p
 use Rattle.sh_tree.specs.standard.program.Syntax.{Text, Word}
 use Rattle.sh_tree.specs.standard.program.Words.{operands_in, redirects_in, static_of}
-use Rattle.sh_table.specs.Counts as counts'
-use Rattle.sh_table.specs.Counts.{Parameters, One, Nothing, count_of}
-use Rattle.sh_table.specs.Profile.{Static}
-use Rattle.sh_table.specs.declared.kind.Kind.{Kind}
-use Rattle.sh_table.specs.declared.kind.Kind.TheVariants as kind
-use Rattle.sh_table.specs.standard.Kinds.{kind_of}
-use Rattle.sh_table.specs.standard.runs.Environment.{is_one_of}
-use Rattle.sh_table.specs.standard.runs.Operands.{has_command}
+use Rattle.sh_runs.specs.Counts as counts'
+use Rattle.sh_runs.specs.Counts.{Parameters, One, Nothing, count_of}
+use Rattle.sh_runs.specs.Profile.{Static}
+use Rattle.sh_runs.specs.declared.kind.Kind.{Kind}
+use Rattle.sh_runs.specs.declared.kind.Kind.TheVariants as kind
+use Rattle.sh_runs.specs.standard.Kinds.{kind_of}
+use Rattle.sh_runs.specs.standard.runs.Environment.{is_one_of}
+use Rattle.sh_runs.specs.standard.runs.Operands.{has_command}
 use Rattle.sh_operands.specs.declared.counts.Total as code
 use Rattle.sh_operands.specs.Fields.{counted, counted_word, no_fields}
 use Rattle.sh_operands.specs.Numerals.{most, capped}

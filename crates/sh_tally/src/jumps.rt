@@ -3,7 +3,7 @@ ghost use Rattle.std.specs.Prelude.{◌≡◌, List, Some, IfOk, IfSome, map};
 ghost use Rattle.sh_tree.specs.Lists.{elements_from};
 ghost use Rattle.sh_tree.specs.standard.program.Syntax.{Word};
 ghost use Rattle.sh_tree.specs.standard.program.Words.{static_of};
-ghost use Rattle.sh_table.specs.declared.kind.Kind.TheVariants as kind;
+ghost use Rattle.sh_runs.specs.declared.kind.Kind.TheVariants as kind;
 ghost use Rattle.sh_tree.specs.declared.known.KnownName.TheVariants as known;
 ghost use Rattle.sh_table.specs.WordTexts.{text_in};
 ghost use Rattle.sh_domain.specs.Operands as operands;
@@ -21,7 +21,7 @@ use sh_counts::{Change, Equations};
 use sh_rules::{Around, Loops};
 use sh_table::WordText;
 use sh_tree::Element;
-use sh_utilities::{first_number, jump_loop};
+use sh_visits::{first_number, jump_loop};
 use std::alloc::AllocError;
 
 // The outermost loop, if there are no more than so many.

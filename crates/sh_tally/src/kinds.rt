@@ -14,10 +14,10 @@ ghost use Rattle.sh_tally.specs.Walks.{AddsBranch, AddsBranches, AddsClause, Add
 use crate::bounds::Tally;
 use crate::places::Part;
 use crate::views::{After, Views};
-use sh_compounds::matches_always;
 use sh_counts::{Change, Equations};
 use sh_rules::{Around, alone};
 use sh_tree::{Branch, Clause, ClauseEnd, Kind, Script, Word};
+use sh_visits::matches_always;
 use std::alloc::AllocError;
 
 impl Tally<'_> {

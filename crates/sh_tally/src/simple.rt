@@ -5,7 +5,7 @@ ghost use Rattle.std.specs.List.{list_any};
 ghost use Rattle.sh_tree.specs.Lists.{elements_from};
 ghost use Rattle.sh_tree.specs.standard.program.Syntax.{Word};
 ghost use Rattle.sh_tree.specs.standard.program.Words.{redirects_in, static_of};
-ghost use Rattle.sh_table.specs.declared.kind.Kind.TheVariants as kind;
+ghost use Rattle.sh_runs.specs.declared.kind.Kind.TheVariants as kind;
 ghost use Rattle.sh_tree.specs.declared.known.KnownName.TheVariants as known;
 ghost use Rattle.sh_table.specs.WordTexts.{text_in};
 ghost use Rattle.sh_domain.specs.Operands.{first_number, total};
@@ -27,7 +27,7 @@ use sh_operands::{count_behind, positional_at};
 use sh_rules::Around;
 use sh_table::{Kind, WordText, kind_of};
 use sh_tree::{Element, KnownName};
-use sh_utilities::{behind_name, first_number};
+use sh_visits::{behind_name, first_number};
 use std::alloc::AllocError;
 
 // The words after the name of a simple command become the parameters, except the first so many.

@@ -12,8 +12,9 @@ ghost use Rattle.sh_rules.specs.Tells as tells;
 ghost use Rattle.sh_rules.specs.Walks as walks;
 ghost use Rattle.sh_rules.specs.Walks.{facts_in, setting};
 
+use crate::bounds::{tell_compound, tell_redirects};
+use crate::drops::tell_drops;
 use crate::simple::tell_simple;
-use sh_compounds::{tell_compound, tell_drops, tell_redirects};
 use sh_domain::{FlowRule, Knowledge};
 use sh_rules::{Around, Asked, Claims, Fault, Place, gain_redirects};
 use sh_tree::{Command, Element, Items, Kind, Redirect};

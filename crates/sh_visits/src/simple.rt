@@ -11,13 +11,15 @@ ghost use Rattle.sh_rules.specs.TextTells as spec;
 ghost use Rattle.sh_rules.specs.Walks as walks;
 ghost use Rattle.sh_rules.specs.Walks.{facts_in, setting};
 
-use sh_compounds::{tell_both, tell_leaves};
+use crate::bounds::{tell_both, tell_leaves};
+use crate::calls::tell_call;
+use crate::jumps::tell_jumps;
+use crate::utilities::{settled, utility_behind};
 use sh_domain::{FlowRule, Knowledge};
 use sh_rules::elements::{behind_into, gain_assignments, is_redirected};
 use sh_rules::{Around, Asked, Claims, Fault, Place};
 use sh_table::{Kind, WordText, kind_of};
 use sh_tree::Element;
-use sh_utilities::{settled, tell_call, tell_jumps, utility_behind};
 
 // Whether a utility of this kind leaves what is known after its words, and does not jump.
 #[tactic(auto, unfolding(sh_rules::specs::TextTells::is_neutral))]

@@ -2,8 +2,8 @@
 ghost use Rattle.std.specs.Prelude.{◌≡◌, ◌≤◌, length, option_map, true};
 ghost use Rattle.sh_tree.specs.declared.limits.TheConstants.{MAX_COMMANDS};
 ghost use Rattle.sh_tree.specs.standard.program.Trees.{script_of};
-ghost use Rattle.sh_table.specs.Calls.{table_of};
-ghost use Rattle.sh_table.specs.Numbering.{is_numbered};
+ghost use Rattle.sh_runs.specs.Calls.{table_of};
+ghost use Rattle.sh_runs.specs.Numbering.{is_numbered};
 ghost use Rattle.sh_domain.specs.Facts.{start_facts};
 ghost use Rattle.sh_domain.specs.Faults.{faults, least};
 ghost use Rattle.sh_domain.specs.Names.{IsNumbering};

@@ -7,11 +7,12 @@ use Rattle.std.specs.Str.{bytes_eq}
 use Rattle.std.proofs.lemmas.Bool.{ne_eqb, cases_eq}
 use Rattle.std.proofs.lemmas.List.{get_or-map, get_or-replicate, length-replicate, map-set, map-append, take_more}
 use Rattle.std.proofs.lemmas.List.Elements.{filter-append}
-use Rattle.sh_table.specs.standard.Kinds.{kind_of, is_special}
-use Rattle.sh_table.specs.Calls.{Table, callee_at, called}
-use Rattle.sh_table.specs.Profile.{Static}
+use Rattle.sh_runs.specs.standard.Kinds.{kind_of, is_special}
+use Rattle.sh_runs.specs.Calls.{Table, callee_at, called}
+use Rattle.sh_runs.specs.Profile.{Static}
 use Rattle.sh_table.specs.declared.table.Row as declared
-use Rattle.sh_table.specs.Calls as calls
+use Rattle.sh_runs.specs.Calls as calls
+use Rattle.sh_table.specs.KeptTable as kept
 use Rattle.sh_worklist.specs.Calls.{does_call, is_number, with_call}
 
 -- functions are numbered from one
@@ -101,10 +102,10 @@ more_called t old new rows i row lt read before same more =
     }
 
 -- the numbers of the rows
-pub all_called : (t : Table) (b : List ℕ) (rows : List declared.Row) (f : ℕ) → map (calls.row_in b) rows ≡ t.rows
+pub all_called : (t : Table) (b : List ℕ) (rows : List declared.Row) (f : ℕ) → map (kept.row_in b) rows ≡ t.rows
     → filter (does_call t f) (map (λ (r : declared.Row). r.number) rows) ≡ filter (does_call t f) (map (λ r. r.0) t.rows)
 all_called t b rows f same = ap (filter (does_call t f)) (numbers rows ∙ ap (map (λ (r : calls.Row). r.0)) same)
   where
-    numbers : (rs : List declared.Row) → map (λ (r : declared.Row). r.number) rs ≡ map (λ (r : calls.Row). r.0) (map (calls.row_in b) rs)
+    numbers : (rs : List declared.Row) → map (λ (r : declared.Row). r.number) rs ≡ map (λ (r : calls.Row). r.0) (map (kept.row_in b) rs)
     numbers [] = refl
     numbers (r ∷ rs) = ap (λ ns. r.number ∷ ns) (numbers rs)

@@ -2,7 +2,7 @@
 -- POSIX.1-2024, XCU 2.9.1.4 (command search and execution).
 use Rattle.std.specs.Prelude.{ℕ, suc, ◌==◌, Bool, false, List, [], ◌∷◌, ◌++◌, map, get_or, slice_set, Option, Some, None}
 use Rattle.std.specs.List.{filter}
-use Rattle.sh_table.specs.Calls.{Table, callee_at}
+use Rattle.sh_runs.specs.Calls.{Table, callee_at}
 use Rattle.sh_worklist.specs.declared.calls.Calls.{Calls}
 
 -- the lists that are kept, by the indices of the functions

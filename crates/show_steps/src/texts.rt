@@ -4,8 +4,8 @@ ghost use Rattle.sh_judged.specs.Prepared.{IsPrepared};
 use sh_domain::{Certificate, Compact, Given, Names, Policy};
 use sh_facts::{compact_of, read_any, start_of, write_certificate, write_compact};
 use sh_find::{find, find_by_rounds, find_counted};
-use sh_flow::certified;
 use sh_judged::Prepared;
+use sh_report::certified;
 use sh_tree::{MAX_NAMES, Refusal};
 use std::alloc::{AllocError, Global};
 

@@ -10,8 +10,8 @@ use Rattle.sh_tree.specs.declared.tree.Link.TheVariants as link
 use Rattle.sh_tree.specs.declared.tree.LoopKind.TheVariants as loop
 use Rattle.sh_tree.specs.examples.Program.{only, simple, alone, lone}
 use Rattle.sh_tree.specs.standard.program.Syntax.{Text, Items, Elements, Variable, Expansion, Value, no_items, more_items, and_or, no_links, more_links, pipeline, no_commands, more_commands, Group, Loop, Define, no_elements, operand}
-use Rattle.sh_table.specs.Calls.{names_of}
-use Rattle.sh_table.specs.Sites.{sites_of}
+use Rattle.sh_runs.specs.Calls.{names_of}
+use Rattle.sh_runs.specs.Sites.{sites_of}
 use Rattle.sh_domain.specs.examples.Programs.{quoted, text, compound, names_in, declared}
 use Rattle.sh_domain.specs.Facts.{Declared}
 use Rattle.sh_domain.specs.examples.Texts.{lines, header, with_line, function_text, loop_text, skipped_text}

@@ -14,7 +14,7 @@ use Rattle.sh_tree.specs.declared.tree.Special.TheVariants as special
 use Rattle.sh_tree.specs.declared.tree.Unary.TheVariants as unary
 use Rattle.sh_tree.specs.examples.Program.{only, plain, simple, alone, lone}
 use Rattle.sh_tree.specs.standard.program.Syntax.{Items, Variable, Positional, Special, Plain, Escaped, Double, Expansion, Arithmetic, Substitution, Tilde, no_parts, more_parts, Value, Length, Use, Remove, Constant, Name, Parenthesis, Signed, Chain, Choice, Assigned, no_operands, more_operands, no_items, more_items, and_or, no_links, more_links, pipeline, no_commands, more_commands, command, Group, Subshell, Conditional, Loop, For, Case, Define, no_elements, assignment, operand, redirection, File, Here, no_redirects, more_redirects, no_branches, more_branches, no_else, every_parameter, listed, no_words, more_words, no_clauses, more_clauses}
-use Rattle.sh_table.specs.examples.Steps.{piece}
+use Rattle.sh_runs.specs.examples.Steps.{piece}
 use Rattle.sh_domain.specs.Facts.{Unreached}
 use Rattle.sh_domain.specs.Views.{Before, AfterZero, AfterNonzero, Entry, ReturnsZero, ReturnsNonzero}
 use Rattle.sh_domain.specs.declared.rule.FlowRule.TheVariants.{F1, F2, F3, F4, F5, F6, F7, F8, F9, F10, F11, F12, F13, F14, F15}

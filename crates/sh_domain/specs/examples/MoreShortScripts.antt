@@ -10,7 +10,7 @@ use Rattle.sh_tree.specs.declared.tree.LoopKind.TheVariants as loop
 use Rattle.sh_tree.specs.declared.tree.Special.TheVariants as special
 use Rattle.sh_tree.specs.examples.Program.{only, plain, simple, alone, lone}
 use Rattle.sh_tree.specs.standard.program.Syntax.{Items, Variable, Positional, Special, Plain, Double, Expansion, Substitution, Tilde, no_parts, more_parts, Value, Use, no_items, more_items, and_or, no_links, more_links, pipeline, no_commands, more_commands, Group, Conditional, Loop, For, Case, Define, no_elements, assignment, operand, redirection, File, no_branches, more_branches, no_else, listed, no_words, more_words, no_clauses, more_clauses}
-use Rattle.sh_table.specs.examples.Steps.{piece}
+use Rattle.sh_runs.specs.examples.Steps.{piece}
 use Rattle.sh_domain.specs.Facts.{Unreached}
 use Rattle.sh_domain.specs.examples.Programs.{quoted, quoted_parameter, text, compound, known, dropping, row, function, Sheet, declared, place, Unmet, answers}
 

@@ -13,7 +13,7 @@ use Rattle.sh_tree.specs.declared.tree.SingleStyle.TheVariants as single
 use Rattle.sh_tree.specs.declared.tree.Special.TheVariants as special
 use Rattle.sh_tree.specs.examples.Program.{only, plain, simple, alone, lone}
 use Rattle.sh_tree.specs.standard.program.Syntax.{Items, Variable, Positional, Special, Plain, Single, Double, Expansion, Arithmetic, Substitution, Joined, more_parts, Value, Use, Constant, Name, Chain, no_operands, more_operands, no_items, more_items, and_or, no_links, more_links, pipeline, no_commands, more_commands, Group, Subshell, Conditional, Loop, For, Case, Define, no_elements, assignment, operand, redirection, Here, no_branches, more_branches, no_else, else_of, listed, no_words, more_words, no_clauses, more_clauses}
-use Rattle.sh_table.specs.examples.Steps.{piece}
+use Rattle.sh_runs.specs.examples.Steps.{piece}
 use Rattle.sh_domain.specs.Facts.{Unreached}
 use Rattle.sh_domain.specs.Views.{Before, AfterZero, Head, ReturnsZero}
 use Rattle.sh_domain.specs.declared.rule.FlowRule.TheVariants.{F1, F4, F7, F13, F14}

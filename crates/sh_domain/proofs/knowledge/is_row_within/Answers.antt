@@ -1,7 +1,7 @@
 use Rattle.std.proofs.Common.{◌≡◌, sym, ◌∙◌, ap}
 use Rattle.std.specs.List.{list_all}
 use Rattle.std.proofs.Math.Path.{fun_ext}
-use Rattle.sh_table.specs.standard.runs.Environment.{is_one_of}
+use Rattle.sh_runs.specs.standard.runs.Environment.{is_one_of}
 use Rattle.sh_domain.specs.Certificates.{in_byte_order, names_at}
 use Rattle.sh_domain.specs.Knowledge.{contains}
 use Rattle.sh_domain.specs.NumberSets.{numbers_of}

@@ -1,8 +1,9 @@
 use Rattle.std.proofs.Common.{◌≡◌, ◌∙◌, Bor, List, true, false, ap, sym}
 use Rattle.std.specs.Option.{option_map}
-use Rattle.sh_table.specs.standard.runs.Operands.{is_dashed, ends_options}
+use Rattle.sh_runs.specs.standard.runs.Operands.{is_dashed, ends_options}
 use Rattle.sh_domain.specs.declared.sights.Seen.{Seen}
-use Rattle.sh_domain.specs.Sights.{option_takes, read_behind}
+use Rattle.sh_domain.specs.Sights.{read_behind}
+use Rattle.sh_runs.specs.ReadOptions.{option_takes}
 use Rattle.sh_domain.specs.SightWalks.{seen_in}
 use Rattle.sh_domain.proofs.SightLemmas.{read_on, read_other}
 use Rattle.sh_domain.proofs.operands.read_behind.Goals as goal

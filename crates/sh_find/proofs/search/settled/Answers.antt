@@ -4,7 +4,7 @@ use Rattle.std.proofs.lemmas.List.{length-map}
 use Rattle.sh_tree.specs.declared.limits.TheConstants.{MAX_NESTING}
 use Rattle.sh_tree.specs.standard.language.Bytes.{is_name}
 use Rattle.sh_tree.specs.standard.program.Trees.{script_of}
-use Rattle.sh_table.specs.Calls.{Table}
+use Rattle.sh_runs.specs.Calls.{Table}
 use Rattle.sh_domain.specs.Facts.{start_facts}
 use Rattle.sh_domain.specs.Faults.{broken, faults}
 use Rattle.sh_domain.specs.Rules.{script_bounds}

@@ -1,5 +1,5 @@
 use Rattle.std.proofs.Common.{ap}
-use Rattle.sh_table.specs.Calls.{Table, table_of}
+use Rattle.sh_runs.specs.Calls.{Table, table_of}
 use Rattle.sh_drafts.proofs.ReadyLemmas.{numbered}
 use Rattle.sh_sweeps.proofs.SweepLemmas.{setting_is}
 use Rattle.sh_sweeps.proofs.claims.claims_of.Goals as goal

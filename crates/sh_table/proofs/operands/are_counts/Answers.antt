@@ -1,5 +1,5 @@
 use Rattle.std.proofs.Common.{◌∙◌}
-use Rattle.sh_table.specs.standard.runs.Rows.{is_count}
+use Rattle.sh_runs.specs.standard.runs.Rows.{is_count}
 use Rattle.sh_table.specs.WordTexts.{text_in}
 use Rattle.sh_table.proofs.OperandTests.{all_in}
 use Rattle.sh_table.proofs.operands.are_counts.Goals as goal

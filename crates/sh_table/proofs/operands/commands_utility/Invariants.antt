@@ -1,5 +1,5 @@
 use Rattle.std.proofs.Common.{◌≡◌, length, map}
-use Rattle.sh_table.specs.standard.runs.Rows.{commands_utility}
+use Rattle.sh_runs.specs.standard.runs.Rows.{commands_utility}
 use Rattle.sh_table.specs.WordTexts.{text_in}
 use Rattle.sh_table.proofs.operands.commands_utility.Given as goal
 

@@ -1,5 +1,5 @@
 use Rattle.std.proofs.Common.{◌≡◌, length, false, map}
-use Rattle.sh_table.specs.Profile.{sets_known}
+use Rattle.sh_runs.specs.Profile.{sets_known}
 use Rattle.sh_table.specs.WordTexts.{text_in}
 use Rattle.sh_table.proofs.operands.sets_known.Given as goal
 

@@ -1,5 +1,5 @@
 use Rattle.std.proofs.Common.{◌≡◌, length, map}
-use Rattle.sh_table.specs.Numbering.{numbers_rise}
+use Rattle.sh_runs.specs.Numbering.{numbers_rise}
 use Rattle.sh_table.proofs.table.numbers_rise.Given as goal
 
 -- those before rise

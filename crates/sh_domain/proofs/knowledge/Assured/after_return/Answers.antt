@@ -1,5 +1,5 @@
 use Rattle.std.proofs.Common.{◌&&◌, ◌||◌, not, refl, sym, ◌∙◌, ap}
-use Rattle.sh_table.specs.standard.runs.Environment.{is_one_of}
+use Rattle.sh_runs.specs.standard.runs.Environment.{is_one_of}
 use Rattle.sh_domain.specs.Certificates.{claim_of, drops_of, in_byte_order}
 use Rattle.sh_domain.specs.Facts.{facts}
 use Rattle.sh_domain.specs.Knowledge.{contains, knowledge_facts}

@@ -2,7 +2,7 @@ use Rattle.std.proofs.Common.{◌&&◌, ◌||◌, List, [], ◌∷◌, sym, ◌�
 use Rattle.std.specs.Prelude.{codes}
 use Rattle.std.specs.Str.{bytes_eq}
 use Rattle.sh_tree.specs.standard.program.Syntax.{Text}
-use Rattle.sh_table.specs.standard.runs.Environment.{is_one_of}
+use Rattle.sh_runs.specs.standard.runs.Environment.{is_one_of}
 use Rattle.sh_domain.specs.Facts.{start_facts}
 use Rattle.sh_domain.specs.Knowledge.{among, contains, knowledge_facts}
 use Rattle.sh_domain.proofs.KnowledgeLemmas.{and_none, started}

@@ -1,5 +1,5 @@
 use Rattle.std.proofs.Common.{◌∙◌}
-use Rattle.sh_table.proofs.FunctionLemmas.{place_of_key}
+use Rattle.sh_runs.proofs.PositionLemmas.{place_of_key}
 use Rattle.sh_domain.proofs.name_set.NameSet.number.Goals as goal
 
 pub returns-in_err-index-clause-number : goal.returns-in_err-index-clause-number

@@ -1,5 +1,6 @@
 use Rattle.std.proofs.Common.{rules, sym, ◌∙◌}
-use Rattle.sh_table.proofs.FunctionLemmas.{place_of_key, put_more}
+use Rattle.sh_runs.proofs.PositionLemmas.{place_of_key}
+use Rattle.sh_table.proofs.FunctionLemmas.{put_more}
 use Rattle.sh_table.proofs.functions.Functions.add.Goals as goal
 
 pub add_first-requires : goal.add_first-requires

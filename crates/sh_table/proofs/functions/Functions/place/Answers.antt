@@ -1,5 +1,5 @@
 use Rattle.std.proofs.Common.{◌∙◌}
-use Rattle.sh_table.proofs.FunctionLemmas.{place_of_key}
+use Rattle.sh_runs.proofs.PositionLemmas.{place_of_key}
 use Rattle.sh_table.proofs.functions.Functions.place.Goals as goal
 
 pub returns-clause-place : goal.returns-clause-place

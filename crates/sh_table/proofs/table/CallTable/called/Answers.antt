@@ -1,7 +1,7 @@
 use Rattle.std.proofs.Common.{◌≡◌, ℕ, suc, ◌+◌, Some, None, ap, rules, arith, ◌∙◌}
 use Rattle.std.specs.List.{position_from}
 use Rattle.std.specs.Str.{bytes_eq}
-use Rattle.sh_table.specs.Calls.{Table}
+use Rattle.sh_runs.specs.Calls.{Table}
 use Rattle.sh_table.proofs.TableLemmas.{not_named, special_named, place_named}
 use Rattle.sh_table.proofs.table.CallTable.called.Goals as goal
 

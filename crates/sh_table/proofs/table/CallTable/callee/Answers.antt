@@ -1,6 +1,6 @@
 use Rattle.std.proofs.Common.{length, ap, arith, ◌∙◌}
 use Rattle.std.proofs.lemmas.List.{length-map}
-use Rattle.sh_table.specs.Calls.{Table}
+use Rattle.sh_runs.specs.Calls.{Table}
 use Rattle.sh_table.proofs.TableLemmas.{none_called}
 use Rattle.sh_table.proofs.table.CallTable.callee.Goals as goal
 

@@ -1,7 +1,7 @@
 use Rattle.std.proofs.Common.{ap, ◌∙◌}
 use Rattle.std.specs.List.{position_from}
 use Rattle.std.specs.Str.{bytes_eq}
-use Rattle.sh_table.specs.Calls.{Table}
+use Rattle.sh_runs.specs.Calls.{Table}
 use Rattle.sh_table.proofs.table.CallTable.function_place.Goals as goal
 
 pub returns : goal.returns

@@ -1,5 +1,5 @@
 use Rattle.std.proofs.Common.{ap, is_some, ◌∙◌}
-use Rattle.sh_table.proofs.FunctionLemmas.{is_placed}
+use Rattle.sh_runs.proofs.PositionLemmas.{is_placed}
 use Rattle.sh_table.proofs.table.CallTable.is_function.Goals as goal
 
 pub returns : goal.returns

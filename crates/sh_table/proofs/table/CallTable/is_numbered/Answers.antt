@@ -1,5 +1,5 @@
 use Rattle.std.proofs.Common.{ap, sym, ◌∙◌}
-use Rattle.sh_table.specs.Calls.{Table}
+use Rattle.sh_runs.specs.Calls.{Table}
 use Rattle.sh_table.proofs.NumberLemmas.{rises_kept, rises_numbered}
 use Rattle.sh_table.proofs.table.CallTable.is_numbered.Goals as goal
 

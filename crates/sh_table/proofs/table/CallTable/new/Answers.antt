@@ -1,7 +1,7 @@
 use Rattle.std.proofs.Common.{length, ap, ◌∙◌, arith}
 use Rattle.sh_tree.specs.standard.program.Trees.{script_of}
-use Rattle.sh_table.specs.Calls.{Functions}
-use Rattle.sh_table.specs.Sites.{sites_of}
+use Rattle.sh_runs.specs.Calls.{Functions}
+use Rattle.sh_runs.specs.Sites.{sites_of}
 use Rattle.sh_table.proofs.TableLemmas.{functions_whole, table_whole, names_few, kept}
 use Rattle.sh_table.proofs.table.CallTable.new.Goals as goal
 

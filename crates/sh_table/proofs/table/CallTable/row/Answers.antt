@@ -3,7 +3,7 @@ use Rattle.std.proofs.Math.Dec.{ltb}
 use Rattle.std.proofs.lemmas.List.{take_rest}
 use Rattle.std.proofs.lemmas.List.Sorted.{IsPartitionPoint-from_clause, IsPartitionedBy-ltb}
 use Rattle.sh_table.specs.declared.table.Row as declared
-use Rattle.sh_table.specs.Calls.{found_texts}
+use Rattle.sh_table.specs.KeptTable.{found_texts}
 use Rattle.sh_table.proofs.TableLemmas.{row_found, row_here}
 use Rattle.sh_table.proofs.table.CallTable.row.Goals as goal
 

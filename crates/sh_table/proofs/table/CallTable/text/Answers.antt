@@ -1,5 +1,5 @@
 use Rattle.std.proofs.Common.{ap}
-use Rattle.sh_table.specs.Calls.{Table}
+use Rattle.sh_runs.specs.Calls.{Table}
 use Rattle.sh_table.proofs.TableLemmas.{no_text, text_found}
 use Rattle.sh_table.proofs.table.CallTable.text.Goals as goal
 

@@ -1,9 +1,0 @@
-use Rattle.std.proofs.Common.{◌≡◌, fold, take}
-use Rattle.sh_rules.specs.Losses.{texts_with}
-use Rattle.sh_rules.specs.Reached.{defined_dropped}
-use Rattle.sh_rules.specs.Walks.{setting}
-use Rattle.sh_compounds.proofs.drops.drop_functions.Given as goal
-
--- what is kept so far is what the pieces so far drop
-abbrev pub invariant-loop-text : goal.invariant-loop-text
-invariant-loop-text g l = g.A.Asked.kept l.asked ≡ fold (texts_with (setting l.claims) (defined_dropped g.A.Asked.asked (setting l.claims) l.number l.function)) (g.A.Asked.kept l.initial.asked) (take l.text-index l.texts)

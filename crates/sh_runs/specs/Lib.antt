@@ -1,0 +1,13 @@
+pub mod standard
+pub mod Surroundings
+pub mod Profile
+pub mod Admitted
+pub mod Sites
+pub mod Calls
+pub mod Numbering
+pub mod Counts
+pub mod Quoting
+pub mod Theorem
+pub mod Rows
+pub mod ReadOptions
+pub mod examples

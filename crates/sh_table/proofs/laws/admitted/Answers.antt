@@ -1,5 +1,0 @@
-use Rattle.sh_table.proofs.AdmittedLemmas.{admitted_as_listed}
-use Rattle.sh_table.proofs.laws.admitted.Goals as goal
-
-pub returns : goal.returns
-returns c = admitted_as_listed

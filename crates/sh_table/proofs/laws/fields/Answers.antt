@@ -1,9 +1,0 @@
-use Rattle.sh_table.proofs.FieldLemmas.{stand_whole}
-use Rattle.sh_table.proofs.SteadyLemmas.{fields_stand_steady}
-use Rattle.sh_table.proofs.laws.fields.Goals as goal
-
-pub returns-clause-whole : goal.returns-clause-whole
-returns-clause-whole c = stand_whole
-
-pub returns-clause-steady : goal.returns-clause-steady
-returns-clause-steady c = fields_stand_steady

@@ -1,5 +1,0 @@
-use Rattle.sh_table.proofs.FormLemmas.{forms_as_expected}
-use Rattle.sh_table.proofs.laws.form_rows.Goals as goal
-
-pub returns : goal.returns
-returns c = forms_as_expected

@@ -1,9 +1,0 @@
-use Rattle.sh_table.proofs.RowExampleLemmas.{rows_as_expected}
-use Rattle.sh_table.proofs.RowLemmas.{rows_are_there}
-use Rattle.sh_table.proofs.laws.rows.Goals as goal
-
-pub returns-clause-there : goal.returns-clause-there
-returns-clause-there c = rows_are_there
-
-pub returns-clause-known : goal.returns-clause-known
-returns-clause-known c = rows_as_expected
