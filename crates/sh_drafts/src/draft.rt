@@ -1,9 +1,11 @@
 //! A certificate that is lowered.
+ghost use Rattle.std.specs.Prelude.{◌≡◌, IfOk};
 
 use sh_domain::{Certificate, Facts, RowId, Rows};
 use sh_rows::BitRow;
+use sh_table::CallTable;
 use sh_worklist::Waiting;
-use std::alloc::Global;
+use std::alloc::{AllocError, Global};
 
 /// A certificate that is lowered, and a row by which the rows of others are looked up. So a row
 /// that is there takes no memory.
@@ -109,6 +111,42 @@ fn size_of(rows: &Rows, id: RowId) -> u64 {
 }
 
 impl Draft {
+    /// A certificate of so many commands, which all wait.
+    ///
+    /// # Errors
+    ///
+    /// If a growth was refused.
+    pub fn new(
+        alloc: Global,
+        certificate: Certificate,
+        probe: BitRow,
+        table: &CallTable<'_>,
+        commands: usize,
+    ) -> Result<Draft, AllocError>
+        ensures certificate { IfOk result (λ draft. draft.certificate ≡ certificate) }
+        ensures probe { IfOk result (λ draft. draft.probe ≡ probe) }
+    {
+        let waiting = Waiting::all(alloc, table)?;
+        Ok(Draft {
+            alloc,
+            certificate,
+            probe,
+            lowered: 0,
+            counted: 0,
+            rest: rest_after(0, commands),
+            is_count: false,
+            tires: tires_after(0, commands),
+            rounds: u32::MAX,
+            has_left: false,
+            looks: 0,
+            patience: u64::MAX,
+            again: 0,
+            entered: 0,
+            room: room_after(0, commands),
+            waiting,
+        })
+    }
+
     /// Whether the counts fell so often, or alone for so long, that they are to be solved apart: a
     /// hint.
     pub fn is_tired(&self) -> bool {

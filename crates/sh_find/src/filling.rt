@@ -15,11 +15,10 @@ ghost use Rattle.sh_domain.specs.Filled.{FillsTo};
 use crate::search::{Way, settle};
 use sh_domain::{Certificate, Compact, Names, Policy};
 use sh_drafts::begun::begun;
-use sh_drafts::{Draft, Subject, Writable, room_after};
+use sh_drafts::{Draft, Subject, Writable};
 use sh_rows::{BitRow, Row};
 use sh_table::CallTable;
 use sh_tree::{Script, commands};
-use sh_worklist::Waiting;
 use std::alloc::{AllocError, Global};
 
 // The certificate that a compact one of a script is filled to.
@@ -43,24 +42,15 @@ fn filled(alloc: Global, subject: &Subject<'_>) -> Result<Certificate, AllocErro
     let count = subject.names.count();
     let mut probe = BitRow::empty(alloc, count)?;
     let certificate = begun(alloc, subject, &mut probe, commands, functions)?;
-    let mut draft = Draft {
+    let mut draft = Draft::new(
         alloc,
         certificate,
         probe,
-        lowered: 0,
-        counted: 0,
-        rest: 0,
-        is_count: false,
-        tires: u64::MAX,
-        rounds: u32::MAX,
-        has_left: false,
-        looks: 0,
-        patience: u64::MAX,
-        again: 0,
-        entered: 0,
-        room: room_after(0, subject.commands.len()),
-        waiting: Waiting::all(alloc, subject.table)?,
-    };
+        subject.table,
+        subject.commands.len(),
+    )?;
+    draft.rest = 0;
+    draft.tires = u64::MAX;
     settle(subject, &mut draft, Way::Once)?;
     Ok(draft.certificate)
 }

@@ -16,8 +16,8 @@ ghost use Rattle.sh_drafts.specs.Working.{IsWorking};
 use indexmap::IndexMap;
 use sh_domain::{Certificate, Compact, Facts, Names, Policy, Rows, is_loop};
 use sh_drafts::{
-    Draft, Subject, Target, Writable, patience_after, rest_after, room_after, rounds_after,
-    tires_after, unreached,
+    Draft, Subject, Target, Writable, patience_after, rest_after, rounds_after, tires_after,
+    unreached,
 };
 use sh_passes::{sweep_by_rounds, sweep_round, sweep_waiting};
 use sh_rows::{BitRow, Row};
@@ -151,24 +151,8 @@ fn settled(alloc: Global, subject: &Subject<'_>, way: Way) -> Result<(Certificat
     let functions = subject.table.functions().len();
     let certificate = unreached(alloc, count, subject.commands, functions)?;
     let probe = BitRow::empty(alloc, count)?;
-    let mut draft = Draft {
-        alloc,
-        certificate,
-        probe,
-        lowered: 0,
-        counted: 0,
-        rest: rest_after(0, subject.commands.len()),
-        is_count: false,
-        tires: tires_after(0, subject.commands.len()),
-        rounds: u32::MAX,
-        has_left: false,
-        looks: 0,
-        patience: u64::MAX,
-        again: 0,
-        entered: 0,
-        room: room_after(0, subject.commands.len()),
-        waiting: Waiting::all(alloc, subject.table)?,
-    };
+    let commands = subject.commands.len();
+    let mut draft = Draft::new(alloc, certificate, probe, subject.table, commands)?;
     settle(subject, &mut draft, way)?;
     let looks = draft.looks;
     Ok((draft.certificate, looks))

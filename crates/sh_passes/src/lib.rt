@@ -3,7 +3,6 @@
 
 mod bodies;
 mod choices;
-mod news;
 mod own;
 mod rounds;
 mod sweep;

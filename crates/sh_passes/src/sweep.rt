@@ -20,7 +20,6 @@ ghost use Rattle.sh_drafts.specs.Ready.{IsReady, IsSwept};
 
 use crate::bodies::{is_called_again, sweep_called};
 use crate::choices::{sweep_case, sweep_cond};
-use crate::news::News;
 use crate::own::{lower_behind, lower_command};
 use crate::rounds::sweep_rounds;
 use crate::words::{sweep_elements, sweep_for_words, sweep_redirections};
@@ -32,7 +31,7 @@ use sh_sweeps::known::{
     behind_pipe, entry_of, head_of, inside_of, pass_all, pass_link, pass_on, process_of,
     started_in, turn_of,
 };
-use sh_sweeps::{carry_over, lower_before};
+use sh_sweeps::{News, carry_over, lower_before};
 use sh_tree::{AndOr, Command, Item, Kind, Link, LoopKind, Pipe, Script, Span};
 use sh_worklist::{Look, do_links_wait, does_item_wait, does_pipe_wait, next_place};
 use std::alloc::AllocError;

@@ -144,7 +144,8 @@ pub fn certificate(
 {
     let prepared = prepare(alloc, script, policy)?;
     if full {
-        return full_text(alloc, script, policy, &prepared);
+        full_text(alloc, script, policy, &prepared)
+    } else {
+        compact_text(alloc, script, policy, &prepared)
     }
-    compact_text(alloc, script, policy, &prepared)
 }

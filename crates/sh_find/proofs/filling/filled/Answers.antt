@@ -7,6 +7,9 @@ use Rattle.sh_runs.specs.Calls.{Table}
 use Rattle.sh_domain.specs.Reading.{AreLoops, loops_of}
 use Rattle.sh_domain.proofs.VariableLemmas.{read_names_variables}
 use Rattle.sh_domain.specs.Admitted.{functions_in}
+use Rattle.sh_domain.specs.declared.certificate.Certificate.{Certificate}
+use Rattle.sh_rows.specs.declared.bits.BitRow.{BitRow}
+use Rattle.sh_drafts.specs.Ready.{IsReady, IsSettled}
 use Rattle.sh_drafts.specs.Working.{IsWorking}
 use Rattle.sh_find.proofs.FillLemmas.{begun_over, counts, has_stated, is_filled, stateable}
 use Rattle.sh_sweeps.proofs.LoopsLemmas.{few_listed}
@@ -52,7 +55,8 @@ begun-requires-clause-functions c =
 pub settle-requires-clause-ready : goal.settle-requires-clause-ready
 settle-requires-clause-ready c =
     let s = c.args.subject.now in
-    record {
+    let made = c.in_ok-draft.ensures in
+    subst (λ (x : Certificate). IsReady s x c.in_ok-draft.draft.probe.count) (sym made.certificate) (subst (λ (p : BitRow). IsReady s c.in_ok-certificate.certificate p.count) (sym made.probe) record {
       admitted = c.requires.admitted;
       loops = loops_of s.commands.now;
       functions = _;
@@ -60,7 +64,7 @@ settle-requires-clause-ready c =
       over = begun_over s c.requires.admitted c.requires.stated (loops_of s.commands.now) _ c.in_ok-certificate.certificate c.in_ok-certificate.ensures.working c.in_ok-certificate.ensures.begun;
       probe = c.in_ok-certificate.ensures.probed;
       commands = c.requires.commands;
-    }
+    })
 
 pub settle-requires-clause-working : goal.settle-requires-clause-working
 settle-requires-clause-working c =
@@ -71,7 +75,8 @@ settle-requires-clause-working c =
     record {
       loops = loops_of s.commands.now;
       are_loops = record { commands = s.commands.now; all = c.requires.commands; ordered = c.requires.ordered; each = refl };
-      working = subst (λ n. IsWorking s.names.now (loops_of s.commands.now) n c.in_ok-certificate.certificate) same c.in_ok-certificate.ensures.working;
+      working = subst (λ (x : Certificate). IsWorking s.names.now (loops_of s.commands.now) (length (functions_in s.script.now s.tree.now)) x) (sym c.in_ok-draft.ensures.certificate)
+          (subst (λ n. IsWorking s.names.now (loops_of s.commands.now) n c.in_ok-certificate.certificate) same c.in_ok-certificate.ensures.working);
     }
 
 pub settle-requires-clause-variables : goal.settle-requires-clause-variables
@@ -91,8 +96,14 @@ returns-clause-filled c =
     let are : AreLoops s.tree.now loops = record { commands = s.commands.now; all = c.requires.commands; ordered = c.requires.ordered; each = refl } in
     let long : length loops ≡ length s.commands.now = length-map s.commands.now _ in
     let few = few_listed s.script.now s.policy.now s.tree.now s.names.now c.requires.admitted s.commands.now c.requires.commands in
+    let made = c.in_ok-draft.ensures.certificate in
+    let working = subst (λ (x : Certificate). IsWorking s.names.now loops m x) (sym made) c.in_ok-certificate.ensures.working in
     is_filled s c.requires.admitted c.requires.stated loops are m same c.in_ok-certificate.certificate c.settle.new.draft.certificate c.in_ok-certificate.ensures.begun
-    (c.in_ok-settle.ensures loops m c.in_ok-certificate.ensures.working) c.count-count.ensures.distinct (omega (arith, long, few)) (omega (arith, c.functions.ensures.few))
+    (subst (λ (x : Certificate). IsSettled s loops m x c.settle.new.draft.certificate) made (c.in_ok-settle.ensures loops m working)) c.count-count.ensures.distinct (omega (arith, long, few)) (omega (arith, c.functions.ensures.few))
 
 pub returns-clause-sized : goal.returns-clause-sized
-returns-clause-sized c = (c.in_ok-settle.ensures _ _ c.in_ok-certificate.ensures.working).working.count
+returns-clause-sized c =
+    let s = c.args.subject.now in
+    let m : ℕ = length c.functions.result.now in
+    let working = subst (λ (x : Certificate). IsWorking s.names.now (loops_of s.commands.now) m x) (sym c.in_ok-draft.ensures.certificate) c.in_ok-certificate.ensures.working in
+    (c.in_ok-settle.ensures (loops_of s.commands.now) m working).working.count

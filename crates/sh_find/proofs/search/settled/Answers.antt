@@ -12,8 +12,10 @@ use Rattle.sh_domain.specs.Reading.{AreLoops}
 use Rattle.sh_domain.specs.Reading.{loops_of}
 use Rattle.sh_domain.proofs.VariableLemmas.{read_names_variables}
 use Rattle.sh_domain.specs.Admitted.{claims_in, functions_in}
+use Rattle.sh_domain.specs.declared.certificate.Certificate.{Certificate}
+use Rattle.sh_rows.specs.declared.bits.BitRow.{BitRow}
 use Rattle.sh_drafts.specs.Stated.{ClaimsStated, asked_bounds}
-use Rattle.sh_drafts.specs.Ready.{asked_of}
+use Rattle.sh_drafts.specs.Ready.{asked_of, IsReady}
 use Rattle.sh_drafts.specs.Turns.{sheet_by}
 use Rattle.sh_drafts.specs.Working.{IsWorking}
 use Rattle.sh_drafts.specs.Starts.{start_of}
@@ -38,7 +40,8 @@ settle-requires-clause-ready c =
     let m : ℕ = length c.functions-functions.result.now in
     let working = c.in_ok-certificate.ensures.working s.names.now (sym c.count-count.ensures.count) in
     let h = numbered s.script.now s.policy.now s.tree.now s.names.now c.requires.admitted in
-    record {
+    let made = c.in_ok-draft.ensures in
+    subst (λ (x : Certificate). IsReady s x c.in_ok-draft.draft.probe.count) (sym made.certificate) (subst (λ (p : BitRow). IsReady s c.in_ok-certificate.certificate p.count) (sym made.probe) record {
       admitted = c.requires.admitted;
       loops = loops;
       functions = m;
@@ -46,7 +49,7 @@ settle-requires-clause-ready c =
       over = λ other keeps. first_above s.names.now h (functions_in s.script.now s.tree.now) loops m c.in_ok-certificate.certificate working c.in_ok-certificate.ensures.claims c.in_ok-certificate.ensures.drops other;
       probe = omega (arith, c.in_ok-probe.ensures.limit, c.count-count.ensures.count);
       commands = c.requires.commands;
-    }
+    })
 
 pub settle-requires-clause-working : goal.settle-requires-clause-working
 settle-requires-clause-working c =
@@ -57,7 +60,8 @@ settle-requires-clause-working c =
     record {
       loops = loops_of s.commands.now;
       are_loops = record { commands = s.commands.now; all = c.requires.commands; ordered = c.requires.ordered; each = refl };
-      working = subst (λ n. IsWorking s.names.now (loops_of s.commands.now) n c.in_ok-certificate.certificate) same (c.in_ok-certificate.ensures.working s.names.now (sym c.count-count.ensures.count));
+      working = subst (λ (x : Certificate). IsWorking s.names.now (loops_of s.commands.now) (length (functions_in s.script.now s.tree.now)) x) (sym c.in_ok-draft.ensures.certificate)
+          (subst (λ n. IsWorking s.names.now (loops_of s.commands.now) n c.in_ok-certificate.certificate) same (c.in_ok-certificate.ensures.working s.names.now (sym c.count-count.ensures.count)));
     }
 
 pub settle-requires-clause-variables : goal.settle-requires-clause-variables
@@ -78,7 +82,7 @@ returns-clause-greatest c =
     let are : AreLoops s.tree.now loops = record { commands = s.commands.now; all = c.requires.commands; ordered = c.requires.ordered; each = refl } in
     let long : length loops ≡ length s.commands.now = length-map s.commands.now _ in
     let few = few_listed s.script.now s.policy.now s.tree.now s.names.now c.requires.admitted s.commands.now c.requires.commands in
-    let working = c.in_ok-certificate.ensures.working s.names.now (sym c.count-count.ensures.count) in
+    let working = subst (λ (x : Certificate). IsWorking s.names.now loops m x) (sym c.in_ok-draft.ensures.certificate) (c.in_ok-certificate.ensures.working s.names.now (sym c.count-count.ensures.count)) in
     let found = c.in_ok-settle.ensures loops m working in
     let ks = script_bounds (script_of s.script.now s.tree.now) in
     let all : asked_of s ≡ ks = ap (λ b. asked_bounds b ks) c.requires.unstated ∙ all_asked ks in
@@ -98,4 +102,5 @@ pub returns-clause-sized : goal.returns-clause-sized
 returns-clause-sized c =
     let s = c.args.subject.now in
     let m : ℕ = length c.functions-functions.result.now in
-    (c.in_ok-settle.ensures (loops_of s.commands.now) m (c.in_ok-certificate.ensures.working s.names.now (sym c.count-count.ensures.count))).working.count
+    let working = subst (λ (x : Certificate). IsWorking s.names.now (loops_of s.commands.now) m x) (sym c.in_ok-draft.ensures.certificate) (c.in_ok-certificate.ensures.working s.names.now (sym c.count-count.ensures.count)) in
+    (c.in_ok-settle.ensures (loops_of s.commands.now) m working).working.count
