@@ -1,6 +1,6 @@
 //! The check of a certificate against a script: the flow rules first, then the demands. `laws` says
-//! what a certificate that passes is good for in the runs of the script. A compact certificate is
-//! filled, and then checked as any other.
+//! what a certificate that passes is good for in the runs of the script. `fill` gives the
+//! certificate to which a compact one is filled.
 #![tactic(auto)]
 
 pub mod laws;

@@ -1,4 +1,4 @@
-//! Operands of commands: what the profile requires of them, and what options and names are.
+//! Operands of commands: what the profile requires of them, and the options of `set` and `command`.
 ghost use Rattle.std.specs.Prelude.{◌≡◌, drop, map, is_some, option_map, Some, nat_lt, false};
 ghost use Rattle.std.specs.List.{list_all, list_any};
 ghost use Rattle.sh_tree.specs.standard.language.Bytes as bytes;
