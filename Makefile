@@ -9,15 +9,13 @@ BIN = $(DESTDIR)$(PREFIX)/bin
 SHARE = $(DESTDIR)$(PREFIX)/share
 DOC = $(SHARE)/doc/shset
 
-all: $(PROGRAM)
-
-$(PROGRAM):
+all $(PROGRAM):
 	./shset --version
 
 check:
-	mkdir -p out
-	{ git rev-parse HEAD && .ci/run; } >out/gate.log 2>&1 || { tail -n 20 out/gate.log; exit 1; }
-	tail -n 20 out/gate.log
+	mkdir -p out && rm -f out/gate.log
+	{ git rev-parse HEAD && .ci/run; } >out/gate.part 2>&1 || { tail -n 20 out/gate.part; exit 1; }
+	mv out/gate.part out/gate.log && tail -n 20 out/gate.log
 
 install: $(PROGRAM)
 	install -d $(BIN) $(SHARE)/man/man1 $(SHARE)/bash-completion/completions $(SHARE)/zsh/site-functions $(SHARE)/fish/vendor_completions.d
