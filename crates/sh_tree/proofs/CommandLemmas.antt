@@ -1,9 +1,9 @@
 -- The commands of a piece of a tree, by the pieces one level below it.
-use Rattle.std.proofs.Common.{◌≡◌, Bool, Option, Some, None, List, [], ◌∷◌, ◌++◌, refl, sym, ap, ◌∙◌, Result, Ok, Err, OnOk, append_assoc, map, Bor, Vec, Global, IfOk, subst}
+use Rattle.std.proofs.Common.{◌≡◌, ℕ, ◌<◌, ◌≤◌, ◌+◌, Bool, Option, Some, None, List, [], ◌∷◌, ◌++◌, refl, sym, ap, ◌∙◌, Result, Ok, Err, OnOk, append_assoc, map, length, drop, get_or, Bor, Vec, Global, IfOk, subst}
 use Rattle.std.specs.List.{flat_map}
 use Rattle.std.specs.Option.{option_map_or}
 use Rattle.std.specs.List.Sorted.{IsPermutation}
-use Rattle.std.proofs.lemmas.List.{append-nil, map-append}
+use Rattle.std.proofs.lemmas.List.{append-nil, map-append, drop_more, drop_all}
 use Rattle.std.proofs.lemmas.List.Sorted.{IsPermutation-map}
 use Rattle.sh_tree.specs.declared.tree.Binary.{Binary}
 use Rattle.sh_tree.specs.declared.tree.Span.{Span}
@@ -282,8 +282,11 @@ pub nothing_added : (found more : List Command) → more ≡ [] → found ≡ fo
 nothing_added found more e = sym (append-nil found) ∙ ap (λ xs. found ++ xs) (sym e)
 
 -- one piece after another
+pub joined : (old mid new a b whole : List Command) → mid ≡ old ++ a → whole ≡ a ++ b → new ≡ mid ++ b → new ≡ old ++ whole
+joined old mid new a b whole m w n = n ∙ ap (λ xs. xs ++ b) m ∙ append_assoc old a b ∙ ap (λ xs. old ++ xs) (sym w)
+
 pub both : {X E : Type 0} (r : Result X E) (old mid new a b whole : List Command) → mid ≡ old ++ a → whole ≡ a ++ b → OnOk r (new ≡ mid ++ b) → OnOk r (new ≡ old ++ whole)
-both (Ok x) old mid new a b whole m w n = n ∙ ap (λ xs. xs ++ b) m ∙ append_assoc old a b ∙ ap (λ xs. old ++ xs) (sym w)
+both (Ok x) old mid new a b whole m w n = joined old mid new a b whole m w n
 both (Err e) old mid new a b whole m w n = tt
 
 -- three pieces
@@ -292,11 +295,25 @@ pub thrice : {X E : Type 0} (r : Result X E) (old first mid new a b d whole : Li
 thrice r old first mid new a b d whole f m w n = both r old mid new (a ++ b) d whole (m ∙ ap (λ xs. xs ++ b) f ∙ append_assoc old a b) w n
 
 -- a command, its kind and its redirections
-pub pushed : {X E : Type 0} (r : Result X E) (found : List (Bor Command)) (c : Bor Command) (more : List (Bor Command)) (mid new a b : List Command) → more ≡ found ++ c ∷ []
-    → mid ≡ map (λ x. x.now) more ++ a → of_command c.now ≡ c.now ∷ (a ++ b) → OnOk r (new ≡ mid ++ b) → OnOk r (new ≡ map (λ x. x.now) found ++ of_command c.now)
-pushed r found c more mid new a b p m w n =
+pub pushed : (found : List (Bor Command)) (c : Bor Command) (more : List (Bor Command)) (mid new a b : List Command) → more ≡ found ++ c ∷ []
+    → mid ≡ map (λ x. x.now) more ++ a → of_command c.now ≡ c.now ∷ (a ++ b) → new ≡ mid ++ b → new ≡ map (λ x. x.now) found ++ of_command c.now
+pushed found c more mid new a b p m w n =
     let first : map (λ (x : Bor Command). x.now) more ≡ map (λ (x : Bor Command). x.now) found ++ c.now ∷ [] = ap (map (λ (x : Bor Command). x.now)) p ∙ map-append (λ (x : Bor Command). x.now) found (c ∷ []) in
-    thrice r (map (λ (x : Bor Command). x.now) found) (map (λ (x : Bor Command). x.now) more) mid new (c.now ∷ []) a b (of_command c.now) first m w n
+    let both_first : mid ≡ map (λ (x : Bor Command). x.now) found ++ (c.now ∷ [] ++ a) = m ∙ ap (λ xs. xs ++ a) first ∙ append_assoc (map (λ (x : Bor Command). x.now) found) (c.now ∷ []) a in
+    joined (map (λ (x : Bor Command). x.now) found) mid new (c.now ∷ [] ++ a) b (of_command c.now) both_first w n
+
+-- a turn of a loop over a list, of which a number are done
+pub turned : {X : Type 0} (f : X → List Command) (n : ℕ) (xs : List X) (x : X) (old mid new a : List Command) → n < length xs → x ≡ get_or xs n x
+    → mid ++ flat_map f (drop n xs) ≡ old ++ flat_map f xs → f x ≡ a → new ≡ mid ++ a → new ++ flat_map f (drop (n + 1) xs) ≡ old ++ flat_map f xs
+turned f n xs x old mid new a lt is inv w e =
+    let here : drop n xs ≡ x ∷ drop (n + 1) xs = drop_more xs n x lt ∙ ap (λ y. y ∷ drop (n + 1) xs) (sym is) in
+    ap (λ ys. ys ++ flat_map f (drop (n + 1) xs)) e ∙ append_assoc mid a (flat_map f (drop (n + 1) xs)) ∙ ap (λ ys. mid ++ (ys ++ flat_map f (drop (n + 1) xs))) (sym w)
+    ∙ ap (λ ys. mid ++ flat_map f ys) (sym here) ∙ inv
+
+-- its end
+pub ended : {X : Type 0} (f : X → List Command) (n : ℕ) (xs : List X) (old new whole : List Command) → length xs ≤ n
+    → new ++ flat_map f (drop n xs) ≡ old ++ flat_map f xs → whole ≡ flat_map f xs → new ≡ old ++ whole
+ended f n xs old new whole le inv w = sym (append-nil new) ∙ ap (λ ys. new ++ flat_map f ys) (sym (drop_all n xs le)) ∙ inv ∙ ap (λ ys. old ++ ys) (sym w)
 
 -- what is found, in another order
 pub all_in_order : {E : Type 0} (r : Result (Vec (Bor Command) Global) E) (found : List (Bor Command)) (all : List Command) → map (λ x. x.now) found ≡ all

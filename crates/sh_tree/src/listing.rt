@@ -8,92 +8,49 @@ ghost use Rattle.sh_tree.specs.declared.tree.Command.{out-Command};
 ghost use Rattle.sh_tree.specs.Commands as spec;
 
 use crate::tree::{
-    AndOr, Binary, Branch, Clause, Command, Element, Expr, Item, Kind, Link, ParameterOperator,
-    Part, Pipe, Redirect, Script, Target, Word,
+    AndOr, Binary, Branch, Clause, Command, Element, Expr, Kind, ParameterOperator, Part, Pipe,
+    Script, Target, Word,
 };
 use std::alloc::{AllocError, Global};
 
 #[cycle(walk)]
-#[tactic(auto, using(crate::proofs::CommandLemmas::script_out))]
 fn add_script<'a>(script: &'a Script, found: &mut Vec<&'a Command>) -> Result<(), AllocError>
     ensures { OnOk result (map (λ c. c.now) found.new.items ≡ map (λ c. c.now) found.old.items ++ spec.of_script script.now) }
 {
-    add_items(script.items.as_slice(), found)
-}
-
-#[cycle(walk)]
-fn add_items<'a>(items: &'a [Item], found: &mut Vec<&'a Command>) -> Result<(), AllocError>
-    ensures { OnOk result (map (λ c. c.now) found.new.items ≡ map (λ c. c.now) found.old.items ++ flat_map spec.of_item items.now) }
-{
-    for item in items {
-        add_item(item, found)?;
+    for item in script.items.as_slice() {
+        add_and_or(&item.list, found)?;
     }
     Ok(())
 }
 
 #[cycle(walk)]
-#[tactic(auto, using(crate::proofs::CommandLemmas::item_out))]
-fn add_item<'a>(item: &'a Item, found: &mut Vec<&'a Command>) -> Result<(), AllocError>
-    ensures { OnOk result (map (λ c. c.now) found.new.items ≡ map (λ c. c.now) found.old.items ++ spec.of_item item.now) }
-{
-    add_and_or(&item.list, found)
-}
-
-#[cycle(walk)]
-#[tactic(auto, using(crate::proofs::CommandLemmas::and_or_out))]
 fn add_and_or<'a>(list: &'a AndOr, found: &mut Vec<&'a Command>) -> Result<(), AllocError>
     ensures { OnOk result (map (λ c. c.now) found.new.items ≡ map (λ c. c.now) found.old.items ++ spec.of_and_or list.now) }
 {
     add_pipe(&list.first, found)?;
-    add_links(list.rest.as_slice(), found)
-}
-
-#[cycle(walk)]
-fn add_links<'a>(links: &'a [(Link, Pipe)], found: &mut Vec<&'a Command>) -> Result<(), AllocError>
-    ensures { OnOk result (map (λ c. c.now) found.new.items ≡ map (λ c. c.now) found.old.items ++ flat_map spec.of_link links.now) }
-{
-    for link in links {
+    for link in list.rest.as_slice() {
         add_pipe(&link.1, found)?;
     }
     Ok(())
 }
 
 #[cycle(walk)]
-#[tactic(auto, using(crate::proofs::CommandLemmas::pipe_out))]
 fn add_pipe<'a>(pipe: &'a Pipe, found: &mut Vec<&'a Command>) -> Result<(), AllocError>
     ensures { OnOk result (map (λ c. c.now) found.new.items ≡ map (λ c. c.now) found.old.items ++ spec.of_pipe pipe.now) }
 {
-    add_commands(pipe.parts.as_slice(), found)
-}
-
-#[cycle(walk)]
-fn add_commands<'a>(commands: &'a [Command], found: &mut Vec<&'a Command>) -> Result<(), AllocError>
-    ensures { OnOk result (map (λ c. c.now) found.new.items ≡ map (λ c. c.now) found.old.items ++ flat_map spec.of_command commands.now) }
-{
-    for command in commands {
+    for command in pipe.parts.as_slice() {
         add_command(command, found)?;
     }
     Ok(())
 }
 
 #[cycle(walk)]
-#[tactic(auto, using(crate::proofs::CommandLemmas::command_out))]
 fn add_command<'a>(command: &'a Command, found: &mut Vec<&'a Command>) -> Result<(), AllocError>
     ensures { OnOk result (map (λ c. c.now) found.new.items ≡ map (λ c. c.now) found.old.items ++ spec.of_command command.now) }
 {
     found.push(command)?;
     add_kind(&command.kind, found)?;
-    add_redirects(command.redirects.as_slice(), found)
-}
-
-#[cycle(walk)]
-fn add_redirects<'a>(
-    redirects: &'a [Redirect],
-    found: &mut Vec<&'a Command>,
-) -> Result<(), AllocError>
-    ensures { OnOk result (map (λ c. c.now) found.new.items ≡ map (λ c. c.now) found.old.items ++ flat_map spec.of_redirect redirects.now) }
-{
-    for redirect in redirects {
+    for redirect in command.redirects.as_slice() {
         add_target(&redirect.target, found)?;
     }
     Ok(())
@@ -178,18 +135,10 @@ fn add_branches<'a>(branches: &'a [Branch], found: &mut Vec<&'a Command>) -> Res
     ensures { OnOk result (map (λ c. c.now) found.new.items ≡ map (λ c. c.now) found.old.items ++ flat_map spec.of_branch branches.now) }
 {
     for branch in branches {
-        add_branch(branch, found)?;
+        add_script(&branch.condition, found)?;
+        add_script(&branch.body, found)?;
     }
     Ok(())
-}
-
-#[cycle(walk)]
-#[tactic(auto, using(crate::proofs::CommandLemmas::branch_out))]
-fn add_branch<'a>(branch: &'a Branch, found: &mut Vec<&'a Command>) -> Result<(), AllocError>
-    ensures { OnOk result (map (λ c. c.now) found.new.items ≡ map (λ c. c.now) found.old.items ++ spec.of_branch branch.now) }
-{
-    add_script(&branch.condition, found)?;
-    add_script(&branch.body, found)
 }
 
 #[cycle(walk)]
@@ -214,18 +163,10 @@ fn add_clauses<'a>(clauses: &'a [Clause], found: &mut Vec<&'a Command>) -> Resul
     ensures { OnOk result (map (λ c. c.now) found.new.items ≡ map (λ c. c.now) found.old.items ++ flat_map spec.of_clause clauses.now) }
 {
     for clause in clauses {
-        add_clause(clause, found)?;
+        add_words(clause.patterns.as_slice(), found)?;
+        add_script(&clause.body, found)?;
     }
     Ok(())
-}
-
-#[cycle(walk)]
-#[tactic(auto, using(crate::proofs::CommandLemmas::clause_out))]
-fn add_clause<'a>(clause: &'a Clause, found: &mut Vec<&'a Command>) -> Result<(), AllocError>
-    ensures { OnOk result (map (λ c. c.now) found.new.items ≡ map (λ c. c.now) found.old.items ++ spec.of_clause clause.now) }
-{
-    add_words(clause.patterns.as_slice(), found)?;
-    add_script(&clause.body, found)
 }
 
 #[cycle(walk)]

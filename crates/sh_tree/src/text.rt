@@ -1,5 +1,5 @@
 //! The text of words that hold no expansion.
-ghost use Rattle.std.specs.Prelude.{◌≡◌, ◌++◌, ◌∷◌, [], if◌then◌else◌, Some, None, IfOk, option_map};
+ghost use Rattle.std.specs.Prelude.{◌≡◌, ◌++◌, ◌∷◌, [], false, if◌then◌else◌, Some, None, IfOk, OnErr, option_map};
 ghost use Rattle.std.specs.List.{list_any};
 ghost use Rattle.std.specs.Str.{bytes_eq};
 ghost use Rattle.sh_tree.specs.standard.Words as words;
@@ -14,10 +14,11 @@ use std::alloc::{AllocError, Global};
 ///
 /// # Errors
 ///
-/// `AllocError` if a growth was refused.
+/// `AllocError` if a growth was refused, which requires a word without such a byte.
 #[tactic(auto, unfolding(crate::specs::standard::Words::static_text))]
 pub fn static_text(alloc: Global, word: &Word, script: &[u8]) -> Result<Option<Vec<u8>>, AllocError>
-    ensures { IfOk result (λ found. option_map (λ v. v.items) found ≡ words.static_text script.now word.now.parts) }
+    ensures text { IfOk result (λ found. option_map (λ v. v.items) found ≡ words.static_text script.now word.now.parts) }
+    ensures memory { OnErr result (words.is_pattern script.now word.now.parts ≡ false) }
 {
     if is_pattern(word.parts.as_slice(), script) {
         return Ok(None);

@@ -1,17 +1,51 @@
-use Rattle.std.proofs.Common.{ap, ◌∙◌}
-use Rattle.sh_tree.proofs.CommandLemmas.{and_or_out, branch_out, clause_out, command_out, of_kind-Cond, of_kind-Loop, of_kind-For-None, of_kind-For-Some, of_kind-Branches, of_target-Here, of_operator-Value, of_operator-Length, of_expression-Chain, of_expression-Choice, both, pushed, thrice, nothing_added}
+use Rattle.std.proofs.Common.{refl, sym, ap, ◌∙◌}
+use Rattle.std.specs.List.{flat_map}
+use Rattle.sh_tree.proofs.CommandLemmas.{script_out, item_out, and_or_out, pipe_out, branch_out, clause_out, command_out, of_kind-Cond, of_kind-Loop, of_kind-For-None, of_kind-For-Some, of_kind-Branches, of_target-Here, of_operator-Value, of_operator-Length, of_expression-Chain, of_expression-Choice, joined, both, pushed, thrice, turned, ended, nothing_added}
 use Rattle.sh_tree.specs.Commands as spec
 use Rattle.sh_tree.specs.Commands.{of_script}
 use Rattle.sh_tree.proofs.listing.+walk.Goals as goal
 
+-- loops over a field
+
+pub add_script-loop-item-preserved : goal.add_script-loop-item-preserved
+add_script-loop-item-preserved t c =
+    turned spec.of_item c.loop-item.item-index c.as_slice-item-items.result.now c.item-item.result _ _ _ _ c.loop-item-test.true c.item-item.is c.loop-item.invariant (item_out c.item-item.result)
+    c.in_ok-add_and_or.ensures
+
+pub add_script-returns : goal.add_script-returns
+add_script-returns t c =
+    ended spec.of_item c.loop-item.item-index c.as_slice-item-items.result.now _ _ _ c.loop-item-test.false c.loop-item.invariant
+    (script_out c.args.script.now ∙ ap (flat_map spec.of_item) (sym c.as_slice-item-items.ensures))
+
 pub add_and_or-returns : goal.add_and_or-returns
-add_and_or-returns t c = both c.add_links.result _ _ _ _ _ _ c.in_ok-add_pipe.ensures (and_or_out c.args.list.now) (rw c.as_slice.ensures at c.add_links.ensures)
+add_and_or-returns t c =
+    joined _ _ _ _ _ _ c.in_ok-add_pipe.ensures (and_or_out c.args.list.now)
+    (ended spec.of_link c.loop-link.link-index c.as_slice-link-items.result.now _ _ _ c.loop-link-test.false c.loop-link.invariant (ap (flat_map spec.of_link) (sym c.as_slice-link-items.ensures)))
 
-pub add_branch-returns : goal.add_branch-returns
-add_branch-returns t c = both c.add_script-2.result _ _ _ _ _ _ c.in_ok-add_script.ensures (branch_out c.args.branch.now) c.add_script-2.ensures
+pub add_pipe-returns : goal.add_pipe-returns
+add_pipe-returns t c =
+    ended spec.of_command c.loop-command.command-index c.as_slice-command-items.result.now _ _ _ c.loop-command-test.false c.loop-command.invariant
+    (pipe_out c.args.pipe.now ∙ ap (flat_map spec.of_command) (sym c.as_slice-command-items.ensures))
 
-pub add_clause-returns : goal.add_clause-returns
-add_clause-returns t c = both c.add_script.result _ _ _ _ _ _ (rw c.as_slice.ensures at c.in_ok-add_words.ensures) (clause_out c.args.clause.now) c.add_script.ensures
+pub add_command-returns : goal.add_command-returns
+add_command-returns t c =
+    pushed _ c.args.command _ _ _ _ _ c.in_ok-push.ensures.items c.in_ok-add_kind.ensures (command_out c.args.command.now)
+    (ended spec.of_redirect c.loop-redirect.redirect-index c.as_slice-redirect-items.result.now _ _ _ c.loop-redirect-test.false c.loop-redirect.invariant
+    (ap (flat_map spec.of_redirect) (sym c.as_slice-redirect-items.ensures)))
+
+-- two pieces in a turn
+
+pub add_branches-loop-branch-preserved : goal.add_branches-loop-branch-preserved
+add_branches-loop-branch-preserved t c =
+    turned spec.of_branch c.loop-branch.branch-index c.args.branches.now c.branch-item.result _ _ _ _ c.loop-branch-test.true c.branch-item.is c.loop-branch.invariant refl
+    (joined _ _ _ _ _ _ c.in_ok-add_script.ensures (branch_out c.branch-item.result) c.in_ok-add_script-2.ensures)
+
+pub add_clauses-loop-clause-preserved : goal.add_clauses-loop-clause-preserved
+add_clauses-loop-clause-preserved t c =
+    turned spec.of_clause c.loop-clause.clause-index c.args.clauses.now c.clause-item.result _ _ _ _ c.loop-clause-test.true c.clause-item.is c.loop-clause.invariant refl
+    (joined _ _ _ _ _ _ (rw c.as_slice.ensures at c.in_ok-add_words.ensures) (clause_out c.clause-item.result) c.in_ok-add_script.ensures)
+
+-- the rest
 
 pub add_target-returns-in_ok-add_word-in-Here : goal.add_target-returns-in_ok-add_word-in-Here
 add_target-returns-in_ok-add_word-in-Here t c =
@@ -22,10 +56,6 @@ add_operator-returns-in-Value t c = nothing_added _ _ (ap spec.of_operator c.in-
 
 pub add_operator-returns-in-Length : goal.add_operator-returns-in-Length
 add_operator-returns-in-Length t c = nothing_added _ _ (ap spec.of_operator c.in-Length.is ∙ of_operator-Length)
-
-pub add_command-returns : goal.add_command-returns
-add_command-returns t c =
-    pushed c.add_redirects.result _ c.args.command _ _ _ _ _ c.in_ok-push.ensures.items c.in_ok-add_kind.ensures (command_out c.args.command.now) (rw c.as_slice.ensures at c.add_redirects.ensures)
 
 pub add_kind-returns-in_ok-add_branches-in-Cond : goal.add_kind-returns-in_ok-add_branches-in-Cond
 add_kind-returns-in_ok-add_branches-in-Cond t c =

@@ -5,17 +5,17 @@ use Rattle.sh_tree.proofs.listing.+walk.Given as goal
 
 -- In each loop what is found and what is left are the whole.
 
-abbrev pub invariant-add_items-loop-item : goal.invariant-add_items-loop-item
-invariant-add_items-loop-item l = map (λ c. c.now) l.found.items ++ flat_map spec.of_item (drop l.item-index l.items) ≡ map (λ c. c.now) l.initial.found.items ++ flat_map spec.of_item l.items
+abbrev pub invariant-add_script-loop-item : goal.invariant-add_script-loop-item
+invariant-add_script-loop-item l = map (λ c. c.now) l.found.items ++ flat_map spec.of_item (drop l.item-index l.item-items) ≡ map (λ c. c.now) l.initial.found.items ++ flat_map spec.of_item l.item-items
 
-abbrev pub invariant-add_links-loop-link : goal.invariant-add_links-loop-link
-invariant-add_links-loop-link l = map (λ c. c.now) l.found.items ++ flat_map spec.of_link (drop l.link-index l.links) ≡ map (λ c. c.now) l.initial.found.items ++ flat_map spec.of_link l.links
+abbrev pub invariant-add_and_or-loop-link : goal.invariant-add_and_or-loop-link
+invariant-add_and_or-loop-link l = map (λ c. c.now) l.found.items ++ flat_map spec.of_link (drop l.link-index l.link-items) ≡ map (λ c. c.now) l.initial.found.items ++ flat_map spec.of_link l.link-items
 
-abbrev pub invariant-add_commands-loop-command : goal.invariant-add_commands-loop-command
-invariant-add_commands-loop-command l = map (λ c. c.now) l.found.items ++ flat_map spec.of_command (drop l.command-index l.commands) ≡ map (λ c. c.now) l.initial.found.items ++ flat_map spec.of_command l.commands
+abbrev pub invariant-add_pipe-loop-command : goal.invariant-add_pipe-loop-command
+invariant-add_pipe-loop-command l = map (λ c. c.now) l.found.items ++ flat_map spec.of_command (drop l.command-index l.command-items) ≡ map (λ c. c.now) l.initial.found.items ++ flat_map spec.of_command l.command-items
 
-abbrev pub invariant-add_redirects-loop-redirect : goal.invariant-add_redirects-loop-redirect
-invariant-add_redirects-loop-redirect l = map (λ c. c.now) l.found.items ++ flat_map spec.of_redirect (drop l.redirect-index l.redirects) ≡ map (λ c. c.now) l.initial.found.items ++ flat_map spec.of_redirect l.redirects
+abbrev pub invariant-add_command-loop-redirect : goal.invariant-add_command-loop-redirect
+invariant-add_command-loop-redirect l = map (λ c. c.now) l.found.items ++ flat_map spec.of_redirect (drop l.redirect-index l.redirect-items) ≡ map (λ c. c.now) l.initial.found.items ++ flat_map spec.of_redirect l.redirect-items
 
 abbrev pub invariant-add_elements-loop-element : goal.invariant-add_elements-loop-element
 invariant-add_elements-loop-element l = map (λ c. c.now) l.found.items ++ flat_map spec.of_element (drop l.element-index l.elements) ≡ map (λ c. c.now) l.initial.found.items ++ flat_map spec.of_element l.elements
