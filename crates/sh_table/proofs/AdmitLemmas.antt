@@ -1,5 +1,6 @@
 -- What `admit` reports is the refused command with the least number.
-use Rattle.std.proofs.Common.{◌≡◌, ℕ, List, [], ◌∷◌, map, Option, Some, None, option_map, Err, refl, sym, ap, ap₂, ◌∙◌, subst}
+use Rattle.std.proofs.Common.{◌≡◌, ℕ, ◌<◌, ◌≤◌, List, [], ◌∷◌, length, arith, map, Option, Some, None, option_map, Err, refl, sym, ap, ap₂, ◌∙◌, subst}
+use Rattle.std.proofs.lemmas.List.{length-map}
 use Rattle.sh_tree.specs.declared.refusal.Refusal.{Refusal}
 use Rattle.sh_tree.specs.declared.refusal.Refusal.TheVariants as refusal
 use Rattle.sh_tree.specs.declared.refusal.Rule.{Rule}
@@ -60,6 +61,29 @@ told_whole b t table rs xs e r h =
     let same : table.script ≡ b = ap (λ (x : Table). x.script) e in
     let rows : map (row_in b) rs ≡ map row_of (sites_of (script_of b t)) = ap (λ c. map (row_in c) rs) (sym same) ∙ r ∙ ap (λ (x : Table). x.rows) e in
     first_by_number (script_of b t) ∙ sym (told_kept b xs rs (sites_of (script_of b t)) rows h)
+
+-- there are no commands
+
+no_texts : (b : List ℕ) (rs : List row.Row) → length rs < 1 → map (row_in b) rs ≡ []
+no_texts b [] none = refl
+no_texts b (r ∷ rs) none = absurd (omega (arith, none))
+
+first_of_none : (ss : List Site) → [] ≡ map row_of ss → first_of ss ≡ None
+unfolding first_of
+first_of_none [] e = refl
+first_of_none (s ∷ ss) e = cc
+
+pub none_refused : (b : List ℕ) (t : Script) (table : Table) (rs : List row.Row) → table ≡ table_of b t → map (row_in table.script) rs ≡ table.rows → length rs < 1
+    → first_refused (script_of b t) ≡ None
+unfolding table_of
+none_refused b t table rs e r none =
+    first_by_number (script_of b t) ∙ first_of_none (sites_of (script_of b t)) (sym (no_texts table.script rs none) ∙ r ∙ ap (λ (x : Table). x.rows) e)
+
+-- there is one
+
+pub some_rows : (b : List ℕ) (t : Script) (table : Table) (rs : List row.Row) → table ≡ table_of b t → map (row_in table.script) rs ≡ table.rows → 1 ≤ length rs
+    → 0 < length (table_of b t).rows
+some_rows b t table rs e r some = omega (arith, some, length-map rs (row_in table.script), ap length (r ∙ ap (λ (x : Table). x.rows) e))
 
 -- the refusal that is reported
 

@@ -1,26 +1,30 @@
 -- What is kept of a script, and the row with a number.
-use Rattle.std.proofs.Common.{◌≡◌, ℕ, zero, suc, ◌<◌, ◌≤◌, ◌==◌, Bool, true, false, cond, List, [], ◌∷◌, length, drop, get_or, map, Option, Some, None, option_map, refl, sym, ap, ap₂, ◌∙◌, arith, ◌+◌, ◌++◌, fold}
-use Rattle.std.proofs.lemmas.List.{length-append, length-map}
+use Rattle.std.proofs.Common.{◌≡◌, ℕ, zero, suc, ◌<◌, ◌≤◌, ◌==◌, Bool, true, false, cond, not, List, [], ◌∷◌, length, get_or, slice_get, map, Option, Some, None, option_map, option_and_then, unwrap_or, refl, sym, ap, ap₂, ◌∙◌, arith, ◌+◌, ◌-◌, ◌++◌, fold}
+use Rattle.std.proofs.lemmas.List.{get_or_default, length-append, length-map}
+use Rattle.std.proofs.lemmas.Option.{slice_get-map, slice_get_past, slice_get_read}
 use Rattle.std.proofs.Math.Dec.{ltb}
 use Rattle.std.proofs.lemmas.Bool.Decides.{nat_tests}
-use Rattle.std.specs.List.{AllWithin, cons_option, filter_map, position_from}
-use Rattle.std.specs.Str.{bytes_eq}
+use Rattle.std.specs.List.{AllWithin, cons_option, filter_map, position_or_len}
 use Rattle.std.specs.List.Sorted.{IsNonDecreasingBy}
 use Rattle.sh_tree.specs.declared.limits.TheConstants.{MAX_COMMANDS}
-use Rattle.sh_tree.specs.declared.tree.Script.{Script}
+use Rattle.sh_tree.specs.declared.tree.Item.{Item}
+use Rattle.sh_tree.specs.declared.tree.Script.{Script, out-Script}
+use Rattle.sh_tree.specs.Lists.{items_from}
 use Rattle.sh_tree.specs.standard.program.Syntax as p
 use Rattle.sh_tree.specs.standard.program.Syntax.{Text}
 use Rattle.sh_tree.specs.standard.program.Trees.{script_of}
+use Rattle.sh_tree.proofs.ProgramRules.{script_of-out}
 use Rattle.sh_table.specs.declared.table.Row as declared
 use Rattle.sh_table.specs.declared.word_text.WordText.{WordText}
 use Rattle.sh_runs.specs.Calls.{Functions, Table, Row, defined, with_name, names_of, functions_of, row_of, table_of, texts_with, static_at, text_at, called, callee_at}
-use Rattle.sh_table.specs.KeptTable.{IsKept, row_in, table_in, first_row, found_texts}
+use Rattle.sh_table.specs.KeptTable.{IsKept, row_in, callee_in, place_with, functions_in, table_in, found_texts}
 use Rattle.sh_runs.specs.standard.Kinds.{kind_of, is_special}
 use Rattle.sh_runs.specs.Profile.{Static}
-use Rattle.sh_runs.specs.Sites.{Site, sites_of}
+use Rattle.sh_runs.specs.Sites.{Site, by_number, sites_of}
+use Rattle.sh_runs.specs.Surroundings.{items_located}
 use Rattle.sh_table.specs.WordTexts.{text_in}
 use Rattle.sh_runs.specs.standard.runs.Environment.{is_one_of}
-use Rattle.sh_runs.proofs.PositionLemmas.{place_later}
+use Rattle.sh_runs.proofs.PositionLemmas.{place, place_later}
 use Rattle.sh_table.proofs.OrderLemmas.{Above, Rises, number_of, rises_by_number}
 
 -- the numbers of rows rise as those of the commands
@@ -119,56 +123,126 @@ names_few b t =
     let rows = length-map ss row_of in
     omega (arith, named, some, rows)
 
-pub kept : (b : List ℕ) (t : Script) (f : Functions) (rs : List declared.Row) → length f.names ≤ MAX_COMMANDS → map (row_in b) rs ≡ map row_of (sites_of (script_of b t)) → IsKept f rs
-kept b t f rs few r = record { few = few; ordered = numbers_rise b (script_of b t) rs r }
+pub kept : (b : List ℕ) (t : Script) (f : Functions) (rs : List declared.Row) (cs : List (Option ℕ)) → length f.names ≤ MAX_COMMANDS → map (row_in b) rs ≡ map row_of (sites_of (script_of b t))
+    → cs ≡ map (callee_in b f.names) rs → IsKept b f rs cs
+kept b t f rs cs few r called = record { few = few; ordered = numbers_rise b (script_of b t) rs r; callees = called }
 
--- the row after those with lesser numbers
+-- of a script without items
 
-none_with : (b : List ℕ) (n : ℕ) (rs : List declared.Row) → ((k : ℕ) (d : declared.Row) → k < length rs → n < (get_or rs k d).number) → [] ≡ texts_with n (map (row_in b) rs)
-unfolding texts_with
-none_with b n [] h = refl
-none_with b n (r ∷ rs) h =
-    let more : n < r.number = h 0 r (omega arith) in
-    let other : (r.number == n) ≡ false = grind (arith, nat_tests) in
-    rw other (none_with b n rs (λ k d l. h (suc k) d (omega (arith, l))))
+pub empty_kept : (b : Text) (f : Functions) (rs : List declared.Row) (cs : List (Option ℕ)) → f ≡ functions_in [] [] → rs ≡ [] → cs ≡ [] → IsKept b f rs cs
+empty_kept b f [] [] fs r c = record { few = rw fs (omega arith); ordered = never_falls [] tt; callees = refl }
+empty_kept b f [] (c ∷ cs) fs r e = cc
+empty_kept b f (x ∷ xs) cs fs r c = cc
 
-pub row_found : (b : List ℕ) (n at : ℕ) (rs : List declared.Row) → at ≤ length rs → IsNonDecreasingBy (λ (r : declared.Row). r.number) rs
-    → AllWithin (λ (r : declared.Row). ltb r.number n ≡ true) rs 0 at → AllWithin (λ (r : declared.Row). ltb r.number n ≡ false) rs at (length rs)
-    → found_texts b (first_row n (drop at rs)) ≡ texts_with n (map (row_in b) rs)
-unfolding first_row found_texts texts_with
-row_found b n zero [] l up low high = refl
-row_found b n (suc a) [] l up low high = refl
-row_found b n zero (r ∷ rs) l up low high = go (r.number == n) refl
-  where
-    go : (t : Bool) → (r.number == n) ≡ t → found_texts b (cond t (Some r) None) ≡ cond t (map (text_in b) r.texts.items) (texts_with n (map (row_in b) rs))
-    go true e = refl
-    go false e =
-        let least : ltb r.number n ≡ false = high 0 r (omega arith) (omega arith) in
-        let more : n < r.number = grind (arith, nat_tests) in
-        none_with b n rs (λ k d h. let above : r.number ≤ (get_or rs k d).number = up 0 (suc k) d (omega arith) (omega (arith, h)) in omega (arith, more, above))
-row_found b n (suc a) (r ∷ rs) l up low high =
+no_sites : (b : Text) (xs : List Item) → xs ≡ [] → sites_of (items_from b xs) ≡ []
+unfolding sites_of by_number items_located items_from
+no_sites b [] none = refl
+no_sites b (x ∷ xs) none = cc
+
+pub empty_table : (b : Text) (t : Script) (f : Functions) (rs : List declared.Row) → (out-Script t).items ≡ [] → f ≡ functions_in [] [] → rs ≡ [] → table_in b f rs ≡ table_of b t
+unfolding functions_of names_of
+empty_table b t f rs none fs r =
+    let sites : sites_of (script_of b t) ≡ [] = ap sites_of (script_of-out b t) ∙ no_sites b (out-Script t).items none in
+    table_whole b t f rs (fs ∙ sym (ap functions_of sites)) (ap (map (row_in b)) r ∙ sym (ap (map row_of) sites))
+
+-- the place of the first row with a number
+
+abbrev has_number : ℕ → declared.Row → Bool
+has_number n r = r.number == n
+
+abbrev IsBelow : ℕ → ℕ → List declared.Row → Type 0
+IsBelow n at rs = AllWithin (λ (r : declared.Row). ltb r.number n ≡ true) rs 0 at
+
+abbrev IsAbove : ℕ → ℕ → List declared.Row → Type 0
+IsAbove n at rs = (k : ℕ) (d : declared.Row) → at ≤ k → k < length rs → n < (get_or rs k d).number
+
+next : (p q : ℕ) → p ≡ q → 1 + p ≡ suc q
+next p q e = omega (arith, e)
+
+first_there : (n at : ℕ) (rs : List declared.Row) → at < length rs → IsBelow n at rs → ((d : declared.Row) → (get_or rs at d).number ≡ n) → position_or_len (has_number n) rs ≡ at
+first_there n at [] l low here = absurd (omega (arith, l))
+first_there n zero (r ∷ rs) l low here =
+    let same : r.number ≡ n = here r in
+    let hit : (r.number == n) ≡ true = grind (arith, nat_tests) in
+    rw hit refl
+first_there n (suc a) (r ∷ rs) l low here =
     let below : ltb r.number n ≡ true = low 0 r (omega arith) (omega arith) in
     let other : (r.number == n) ≡ false = grind (arith, nat_tests) in
-    rw other (row_found b n a rs (omega (arith, l)) (λ i j d k h. up (suc i) (suc j) d (omega (arith, k)) (omega (arith, h)))
-    (λ k d m h. low (suc k) d (omega arith) (omega (arith, h))) (λ k d m h. high (suc k) d (omega (arith, m)) (omega (arith, h))))
+    rw other (next _ a (first_there n a rs (omega (arith, l)) (λ k d m h. low (suc k) d (omega arith) (omega (arith, h))) here))
 
-pub row_here : (b : List ℕ) (n at : ℕ) (rs : List declared.Row) (r : declared.Row) → IsNonDecreasingBy (λ (r : declared.Row). r.number) rs
-    → at < length rs → r ≡ get_or rs at r → r.number ≡ n → ((k : ℕ) → suc k ≡ at → (d : declared.Row) → (get_or rs k d).number < n)
-    → found_texts b (Some r) ≡ texts_with n (map (row_in b) rs)
+none_there : (n at : ℕ) (rs : List declared.Row) → IsBelow n at rs → IsAbove n at rs → position_or_len (has_number n) rs ≡ length rs
+none_there n at [] low high = refl
+none_there n zero (r ∷ rs) low high =
+    let more : n < r.number = high 0 r (omega arith) (omega arith) in
+    let other : (r.number == n) ≡ false = grind (arith, nat_tests) in
+    rw other (next _ (length rs) (none_there n zero rs (λ k d m h. absurd (omega (arith, h))) (λ k d m h. high (suc k) d (omega arith) (omega (arith, h)))))
+none_there n (suc a) (r ∷ rs) low high =
+    let below : ltb r.number n ≡ true = low 0 r (omega arith) (omega arith) in
+    let other : (r.number == n) ≡ false = grind (arith, nat_tests) in
+    rw other (next _ (length rs) (none_there n a rs (λ k d m h. low (suc k) d (omega arith) (omega (arith, h))) (λ k d m h. high (suc k) d (omega (arith, m)) (omega (arith, h)))))
+
+pub place_there : (n at : ℕ) (rs : List declared.Row) → at < length rs → IsBelow n at rs → ((d : declared.Row) → (get_or rs at d).number ≡ n) → Some at ≡ place_with n rs
+place_there n at rs l low here =
+    let first = first_there n at rs l low here in
+    let inside : ltb (position_or_len (has_number n) rs) (length rs) ≡ true = grind (arith, nat_tests) in
+    rw inside (ap (λ (p : ℕ). Some p) (sym first))
+
+pub no_place : (n at : ℕ) (rs : List declared.Row) → IsBelow n at rs → IsAbove n at rs → None ≡ place_with n rs
+no_place n at rs low high =
+    let past = none_there n at rs low high in
+    let outside : ltb (position_or_len (has_number n) rs) (length rs) ≡ false = grind (arith, nat_tests) in
+    rw outside refl
+
+-- the rows before a place have lesser numbers, if the last of them has
+pub all_below : (n at : ℕ) (rs : List declared.Row) → IsNonDecreasingBy (λ (r : declared.Row). r.number) rs → at < length rs
+    → (0 < at → (d : declared.Row) → (get_or rs (at - 1) d).number < n) → IsBelow n at rs
+all_below n at rs up l before k d m h =
+    let last : (get_or rs (at - 1) d).number < n = before (omega (arith, h)) d in
+    let rises : (get_or rs k d).number ≤ (get_or rs (at - 1) d).number = up k (at - 1) d (omega (arith, h)) (omega (arith, l, h)) in
+    let less : (get_or rs k d).number < n = omega (arith, last, rises) in
+    grind (arith, nat_tests)
+
+pub number_there : (rs : List declared.Row) (at : ℕ) (r : declared.Row) → at < length rs → r ≡ get_or rs at r → (d : declared.Row) → (get_or rs at d).number ≡ r.number
+number_there rs at r l here d = ap (λ (x : declared.Row). x.number) (get_or_default rs at d r l ∙ sym here)
+
+-- the rows from a place on have greater numbers, if the first of them has no lesser and another one
+pub all_above : (n at : ℕ) (rs : List declared.Row) (r : declared.Row) → IsNonDecreasingBy (λ (x : declared.Row). x.number) rs → r ≡ get_or rs at r → at < length rs
+    → AllWithin (λ (x : declared.Row). ltb x.number n ≡ false) rs at (length rs) → (r.number == n) ≡ false → IsAbove n at rs
+all_above n at rs r up here l high other k d m h =
+    let same : (get_or rs at d).number ≡ r.number = number_there rs at r l here d in
+    let least : ltb (get_or rs at d).number n ≡ false = high at d (omega arith) l in
+    let more : n < r.number = grind (arith, nat_tests) in
+    let rises : (get_or rs at d).number ≤ (get_or rs k d).number = up at k d m h in
+    omega (arith, more, rises, same)
+
+-- what is kept of the row there
+
+first_texts : (b : List ℕ) (n : ℕ) (rs : List declared.Row) → found_texts b (slice_get rs (position_or_len (has_number n) rs)) ≡ texts_with n (map (row_in b) rs)
 unfolding found_texts texts_with
-row_here b n at [] r up l here same before = absurd (omega (arith, l))
-row_here b n zero (x ∷ rs) r up l here same before =
-    let first : x.number ≡ n = ap (λ (y : declared.Row). y.number) (sym here) ∙ same in
-    let hit : (x.number == n) ≡ true = grind (arith, nat_tests) in
-    rw hit (ap (λ (y : declared.Row). map (text_in b) y.texts.items) here)
-row_here b n (suc a) (x ∷ rs) r up l here same before =
-    let last : x.number ≤ (get_or (x ∷ rs) a x).number = least a (omega (arith, l)) in
-    let less = before a refl x in
-    let other : (x.number == n) ≡ false = grind (arith, nat_tests) in
-    rw other (row_here b n a rs r (λ i j d k h. up (suc i) (suc j) d (omega (arith, k)) (omega (arith, h))) (omega (arith, l)) here same (λ k e d. before (suc k) (ap suc e) d))
+first_texts b n [] = refl
+first_texts b n (r ∷ rs) = go (r.number == n) (first_texts b n rs)
   where
-    least : (k : ℕ) → k < length (x ∷ rs) → x.number ≤ (get_or (x ∷ rs) k x).number
-    least k h = up 0 k x (omega arith) h
+    go : (x : Bool) → found_texts b (slice_get rs (position_or_len (has_number n) rs)) ≡ texts_with n (map (row_in b) rs)
+        → found_texts b (slice_get (r ∷ rs) (cond (not x) (1 + position_or_len (has_number n) rs) 0)) ≡ cond x (map (text_in b) r.texts.items) (texts_with n (map (row_in b) rs))
+    go true h = refl
+    go false h = ap (λ (p : ℕ). found_texts b (slice_get (r ∷ rs) p)) (next _ (position_or_len (has_number n) rs) refl) ∙ h
+
+texts_placed : (b : List ℕ) (n : ℕ) (rs : List declared.Row) → found_texts b (option_and_then (slice_get rs) (place_with n rs)) ≡ texts_with n (map (row_in b) rs)
+texts_placed b n rs = go (ltb (position_or_len (has_number n) rs) (length rs)) refl ∙ first_texts b n rs
+  where
+    go : (x : Bool) → ltb (position_or_len (has_number n) rs) (length rs) ≡ x
+        → found_texts b (option_and_then (slice_get rs) (cond x (Some (position_or_len (has_number n) rs)) None)) ≡ found_texts b (slice_get rs (position_or_len (has_number n) rs))
+    go true e = refl
+    go false e = let past : length rs ≤ position_or_len (has_number n) rs = grind (arith, nat_tests) in ap (found_texts b) (sym (slice_get_past rs (position_or_len (has_number n) rs) past))
+
+pub no_row : (b : List ℕ) (n : ℕ) (rs : List declared.Row) → None ≡ place_with n rs → found_texts b None ≡ texts_with n (map (row_in b) rs)
+no_row b n rs e = ap (λ (o : Option ℕ). found_texts b (option_and_then (slice_get rs) o)) e ∙ texts_placed b n rs
+
+row_placed : (b : List ℕ) (n p : ℕ) (rs : List declared.Row) → Some p ≡ place_with n rs → found_texts b (slice_get rs p) ≡ texts_with n (map (row_in b) rs)
+row_placed b n p rs e = ap (λ (o : Option ℕ). found_texts b (option_and_then (slice_get rs) o)) e ∙ texts_placed b n rs
+
+pub row_there : (b : List ℕ) (n p : ℕ) (rs : List declared.Row) (r : declared.Row) → Some p ≡ place_with n rs → p < length rs → r ≡ get_or rs p r → found_texts b (Some r) ≡ texts_with n (map (row_in b) rs)
+row_there b n p rs r e l here = ap (found_texts b) (sym (slice_get_read rs (length rs) p r refl l here)) ∙ row_placed b n p rs e
 
 -- the text of a word of a row
 
@@ -195,12 +269,14 @@ pub text_found : (x : Table) (b : List ℕ) (n k : ℕ) (r : declared.Row) (t : 
 unfolding found_texts text_at
 text_found x b n k r t same e h = h ∙ ap (λ c. static_at (map (text_in c) r.texts.items) k) same ∙ ap (λ ts. static_at ts k) e
 
-pub not_named : (x : Table) (n : ℕ) → None ≡ text_at x n 0 → None ≡ callee_at x n
-unfolding callee_at called
-not_named x n e = ap (called x.functions.names) e
+-- What is called
+
+pub none_named : (names : List Text) (o : Static) → None ≡ o → None ≡ called names o
+unfolding called
+none_named names o e = ap (called names) e
 
 -- if there are no functions, none is called
-none_among : (names : List Text) (o : Static) → length names < 1 → None ≡ called names o
+pub none_among : (names : List Text) (o : Static) → length names < 1 → None ≡ called names o
 unfolding called
 none_among [] None few = refl
 none_among [] (Some t) few = either (is_special (kind_of t)) None
@@ -210,17 +286,34 @@ none_among [] (Some t) few = either (is_special (kind_of t)) None
     either false o = refl
 none_among (name ∷ names) o few = absurd (omega (arith, few))
 
-pub none_called : (x : Table) (n : ℕ) → length x.functions.names < 1 → None ≡ callee_at x n
-unfolding callee_at
-none_called x n few = none_among x.functions.names (text_at x n 0) few
+pub special_named : (names : List Text) (t : Text) → is_special (kind_of t) ≡ true → None ≡ called names (Some t)
+unfolding called
+special_named names t h = rw h refl
 
-pub special_named : (x : Table) (n : ℕ) (t : List ℕ) → Some t ≡ text_at x n 0 → is_special (kind_of t) ≡ true → None ≡ callee_at x n
-unfolding callee_at called
-special_named x n t e h = let here : None ≡ called x.functions.names (Some t) = rw h refl in here ∙ ap (called x.functions.names) e
+pub place_named : (names : List Text) (t : Text) (o : Option ℕ) → is_special (kind_of t) ≡ false → o ≡ place names t → option_map suc o ≡ called names (Some t)
+unfolding called
+place_named names t o h at = rw h (ap (option_map suc) at ∙ sym (place_later t 0 names))
 
-pub place_named : (x : Table) (n : ℕ) (t : List ℕ) (o : Option ℕ) → Some t ≡ text_at x n 0 → is_special (kind_of t) ≡ false → o ≡ position_from (λ name. bytes_eq name t) 0 x.functions.names
-    → option_map suc o ≡ callee_at x n
-unfolding callee_at called
-place_named x n t o e h at =
-    let here : option_map suc o ≡ called x.functions.names (Some t) = rw h (ap (option_map suc) at ∙ sym (place_later t 0 x.functions.names)) in
-    here ∙ ap (called x.functions.names) e
+pub no_place_named : (names : List Text) (t : Text) → None ≡ place names t → None ≡ called names (Some t)
+no_place_named names t at = go (is_special (kind_of t)) refl
+  where
+    go : (b : Bool) → is_special (kind_of t) ≡ b → None ≡ called names (Some t)
+    go true h = special_named names t h
+    go false h = place_named names t None h at
+
+pub no_callee : (b : Text) (f : Functions) (rs : List declared.Row) (n : ℕ) → None ≡ place_with n rs → None ≡ callee_at (table_in b f rs) n
+unfolding callee_at text_at static_at found_texts called
+no_callee b f rs n e = ap (λ ts. called f.names (static_at ts 0)) (no_row b n rs e)
+
+pub callee_there : (b : Text) (f : Functions) (rs : List declared.Row) (cs : List (Option ℕ)) (n p : ℕ) (c : Option ℕ) → cs ≡ map (callee_in b f.names) rs → Some p ≡ place_with n rs
+    → p < length rs → c ≡ get_or cs p c → c ≡ callee_at (table_in b f rs) n
+unfolding callee_at text_at found_texts
+callee_there b f rs cs n p c kept e l here =
+    let long : length cs ≡ length rs = ap length kept ∙ length-map rs (callee_in b f.names) in
+    let read : option_map (callee_in b f.names) (slice_get rs p) ≡ Some c =
+    sym (slice_get-map (callee_in b f.names) rs p) ∙ ap (λ (xs : List (Option ℕ)). slice_get xs p) (sym kept) ∙ slice_get_read cs (length cs) p c refl (omega (arith, long, l)) here in
+    go (slice_get rs p) read ∙ ap (λ ts. called f.names (static_at ts 0)) (row_placed b n p rs e)
+  where
+    go : (o : Option declared.Row) → option_map (callee_in b f.names) o ≡ Some c → c ≡ called f.names (static_at (found_texts b o) 0)
+    go None h = cc
+    go (Some r) h = ap (λ (o : Option (Option ℕ)). unwrap_or o c) (sym h)

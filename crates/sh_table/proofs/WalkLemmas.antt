@@ -1,9 +1,9 @@
 -- The commands of a piece of a tree, by the pieces one level below it, and what a walk keeps of
 -- them.
-use Rattle.std.proofs.Common.{◌≡◌, ℕ, Bool, true, false, Option, Some, None, List, [], ◌∷◌, ◌++◌, length, refl, sym, ap, ◌∙◌, subst, Result, OnOk, fold, nat_lt, arith}
+use Rattle.std.proofs.Common.{◌≡◌, ℕ, ◌<◌, ◌≤◌, ◌+◌, Bool, true, false, Option, Some, None, List, [], ◌∷◌, ◌++◌, length, take, get_or, refl, sym, ap, ◌∙◌, subst, Result, OnOk, fold, nat_lt, arith}
 use Rattle.std.specs.List.{flat_map}
 use Rattle.std.proofs.lemmas.Bool.Decides.{nat_tests}
-use Rattle.std.proofs.lemmas.List.{append-nil}
+use Rattle.std.proofs.lemmas.List.{append-nil, take_more, take_all, flat_map_more}
 use Rattle.std.proofs.lemmas.List.Sums.{fold-append}
 use Rattle.sh_tree.specs.declared.tree.Action.{Action}
 use Rattle.sh_tree.specs.declared.tree.AndOr.{AndOr, out-AndOr}
@@ -355,16 +355,27 @@ pub nothing_visited : {K : Type 0} (P : K → Type 0) (f : K → Located → K) 
 nothing_visited P f k more e h = subst (λ ls. P (fold f k ls)) (sym e) h
 
 -- one piece after another
+pub joined : {K : Type 0} (P : K → Type 0) (f : K → Located → K) (k : K) (a b whole : List Located) → whole ≡ a ++ b → P (fold f (fold f k a) b) → P (fold f k whole)
+joined P f k a b whole w h = subst P (sym (ap (fold f k) w ∙ fold-append f k a b)) h
+
 pub both : {X E K : Type 0} (P : K → Type 0) (r : Result X E) (f : K → Located → K) (k : K) (a b whole : List Located) → whole ≡ a ++ b
     → OnOk r (P (fold f (fold f k a) b)) → OnOk r (P (fold f k whole))
-both P r f k a b whole w h = subst (λ z. OnOk r (P z)) (sym (ap (fold f k) w ∙ fold-append f k a b)) h
+both P r f k a b whole w h = joined (λ z. OnOk r (P z)) f k a b whole w h
 
 -- three pieces
 pub thrice : {X E K : Type 0} (P : K → Type 0) (r : Result X E) (f : K → Located → K) (k : K) (a b d whole : List Located) → whole ≡ a ++ b ++ d
     → OnOk r (P (fold f (fold f (fold f k a) b) d)) → OnOk r (P (fold f k whole))
 thrice P r f k a b d whole w h = both P r f k (a ++ b) d whole w (subst (λ z. OnOk r (P (fold f z d))) (sym (fold-append f k a b)) h)
 
--- a command, what is in it and in its redirections
-pub visited : {X E K : Type 0} (P : K → Type 0) (r : Result X E) (f : K → Located → K) (k : K) (l : Located) (a b whole : List Located) → whole ≡ l ∷ (a ++ b)
-    → OnOk r (P (fold f (fold f (f k l) a) b)) → OnOk r (P (fold f k whole))
-visited P r f k l a b whole w h = subst (λ z. OnOk r (P z)) (sym (ap (fold f k) w ∙ fold-append f (f k l) a b)) h
+-- a turn of a loop over a list, of which a number are done
+pub turned : {X K : Type 0} (P : K → Type 0) (f : K → Located → K) (g : X → List Located) (n : ℕ) (xs : List X) (x : X) (k : K) (a : List Located) → n < length xs → x ≡ get_or xs n x
+    → g x ≡ a → P (fold f (fold f k (flat_map g (take n xs))) a) → P (fold f k (flat_map g (take (n + 1) xs)))
+turned P f g n xs x k a lt is w h =
+    let more : take (n + 1) xs ≡ take n xs ++ x ∷ [] = take_more xs n x lt ∙ ap (λ y. take n xs ++ y ∷ []) (sym is) in
+    joined P f k (flat_map g (take n xs)) a (flat_map g (take (n + 1) xs))
+    (ap (flat_map g) more ∙ sym (flat_map_more g [] (take n xs) x) ∙ ap (λ ys. flat_map g (take n xs) ++ ys) w) h
+
+-- its end
+pub ended : {X K : Type 0} (P : K → Type 0) (f : K → Located → K) (g : X → List Located) (n : ℕ) (xs : List X) (k : K) (whole : List Located) → length xs ≤ n → whole ≡ flat_map g xs
+    → P (fold f k (flat_map g (take n xs))) → P (fold f k whole)
+ended P f g n xs k whole le w h = subst (λ ys. P (fold f k ys)) (ap (flat_map g) (take_all n xs le) ∙ sym w) h

@@ -1,12 +1,13 @@
 -- Clauses of private functions: the functions and the rows that a call table keeps.
 -- POSIX.1-2024, XCU 2.9.1 (simple commands), 2.9.5 (function definitions).
-use Rattle.std.specs.Prelude.{◌≤◌, ℕ, ◌==◌, if◌then◌else◌, List, [], ◌∷◌, ◌++◌, length, map, Option, Some, None}
+use Rattle.std.specs.Prelude.{◌≡◌, ◌≤◌, ℕ, ◌==◌, if◌then◌else◌, List, [], ◌∷◌, ◌++◌, length, map, Option, Some, None}
+use Rattle.std.specs.List.{position}
 use Rattle.std.specs.List.Sorted.{IsNonDecreasingBy}
 use Rattle.std.specs.Str.{bytes_eq}
 use Rattle.std.specs.Global.{Vec}
 use Rattle.sh_tree.specs.declared.limits.TheConstants.{MAX_COMMANDS}
 use Rattle.sh_tree.specs.standard.program.Syntax.{Text}
-use Rattle.sh_runs.specs.Calls.{Row, Functions, Table, with_name}
+use Rattle.sh_runs.specs.Calls.{Row, Functions, Table, with_name, static_at, called}
 use Rattle.sh_runs.specs.Profile.{Static}
 use Rattle.sh_table.specs.WordTexts.{text_in}
 use Rattle.sh_table.specs.declared.table.Row as declared
@@ -15,10 +16,9 @@ use Rattle.sh_table.specs.declared.table.Row as declared
 abbrev pub row_in : List ℕ → declared.Row → Row
 row_in b r = (r.number, map (text_in b) r.texts.items)
 
--- the first row, if it has this number
-unfoldable pub first_row : ℕ → List declared.Row → Option declared.Row
-first_row n [] = None
-first_row n (r ∷ rs) = if r.number == n then Some r else None
+-- the place of the first row with this number
+abbrev pub place_with : ℕ → List declared.Row → Option ℕ
+place_with n rs = position (λ r. r.number == n) rs
 
 unfoldable pub found_texts : List ℕ → Option declared.Row → List Static
 found_texts b None = []
@@ -32,10 +32,16 @@ functions_in names definitions = record { names = map (λ v. v.items) names; def
 abbrev pub table_in : Text → Functions → List declared.Row → Table
 table_in b f rs = record { script = b; functions = f; rows = map (row_in b) rs }
 
--- that no more functions are kept than may be, and the rows by their numbers
-pub record IsKept (f : Functions) (rs : List declared.Row) : Type 0 where
+-- the function, among those of these names, that a row's command calls
+abbrev pub callee_in : Text → List Text → declared.Row → Option ℕ
+callee_in b names r = called names (static_at (map (text_in b) r.texts.items) 0)
+
+-- That no more functions are kept than may be, and the rows by their numbers. For each row the
+-- function is kept that its command calls.
+pub record IsKept (b : Text) (f : Functions) (rs : List declared.Row) (cs : List (Option ℕ)) : Type 0 where
   pub few : length f.names ≤ MAX_COMMANDS
   pub ordered : IsNonDecreasingBy (λ r. r.number) rs
+  pub callees : cs ≡ map (callee_in b f.names) rs
 
 -- the numbers for each name, with one more for a name, which may be a new one
 unfoldable pub with_number : List Text → List (List ℕ) → Text → ℕ → List (List ℕ)

@@ -1,9 +1,9 @@
 //! The functions of a script, by first definition.
-ghost use Rattle.std.specs.Prelude.{◌≡◌, ◌<◌, List, length, map, IfOk, IfSome, OnOk, None, Some, slice_get};
+ghost use Rattle.std.specs.Prelude.{◌≡◌, ◌<◌, [], List, length, map, IfOk, IfSome, OnOk, None, Some, slice_get};
 ghost use Rattle.std.specs.List.{filter_map, position_from};
 ghost use Rattle.std.specs.Str.{bytes_eq};
 ghost use Rattle.sh_runs.specs.Calls.{functions_of};
-ghost use Rattle.sh_table.specs.KeptTable.{with_definition};
+ghost use Rattle.sh_table.specs.KeptTable.{functions_in, with_definition};
 ghost use Rattle.sh_table.specs.Found as found;
 ghost use Rattle.sh_runs.specs.Sites.{Site};
 
@@ -41,6 +41,16 @@ impl Model for Functions {
 }
 
 impl Functions {
+    /// No functions.
+    pub fn none(alloc: Global) -> Functions
+        ensures { result ≡ functions_in [] [] }
+    {
+        Functions {
+            names: IndexSet::with_hasher(alloc, BuildHasherDefault::new()),
+            definitions: Vec::new(alloc),
+        }
+    }
+
     /// The functions that commands define, by their definitions in the order of the commands.
     ///
     /// # Errors
@@ -53,10 +63,7 @@ impl Functions {
     ) -> Result<Functions, AllocError>
         ensures { (ss : List Site) → map (found.definition_in script.now) definitions.now ≡ filter_map found.definition_of ss → IfOk result (λ functions. functions ≡ functions_of ss) }
     {
-        let mut functions = Functions {
-            names: IndexSet::with_hasher(alloc, BuildHasherDefault::new()),
-            definitions: Vec::new(alloc),
-        };
+        let mut functions = Functions::none(alloc);
         for definition in definitions {
             functions.add(alloc, definition.name.text(script), definition.number)?;
         }

@@ -1,5 +1,5 @@
 //! Which scripts are admitted.
-ghost use Rattle.std.specs.Prelude.{◌≡◌};
+ghost use Rattle.std.specs.Prelude.{◌≡◌, ◌<◌, length, IsErrOf};
 ghost use Rattle.sh_tree.specs.standard.program.Trees.{script_of};
 ghost use Rattle.sh_table.specs.Admits as admits;
 ghost use Rattle.sh_runs.specs.Calls as calls;
@@ -36,11 +36,16 @@ fn first_refusal(sites: &[Site], rows: &[Row], script: &[u8]) -> Option<Refusal>
 /// # Errors
 ///
 /// `Profile` with the first rule that the command with the least number breaks among those that
-/// break one, and the offset at which it starts. `Memory` if a growth was refused.
+/// break one, and the offset at which it starts. `Memory` if a growth was refused, which requires a
+/// command.
 pub fn admit(alloc: Global, tree: &Script, table: &CallTable, script: &[u8]) -> Result<(), Refusal>
     requires { table.now ≡ calls.table_of script.now tree.now }
-    ensures { admits.Admits (script_of script.now tree.now) result }
+    ensures admits { admits.Admits (script_of script.now tree.now) result }
+    ensures memory { IsErrOf result Refusal.Memory → 0 < length (calls.table_of script.now tree.now).rows }
 {
+    let [_, ..] = table.rows() else {
+        return Ok(());
+    };
     let sites = sites(alloc, tree, script)?;
     match first_refusal(sites.as_slice(), table.rows(), script) {
         Some(refusal) => Err(refusal),

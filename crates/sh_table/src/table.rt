@@ -1,12 +1,13 @@
 //! The call table of a script.
-ghost use Rattle.std.specs.Prelude.{◌≡◌, ℕ, List, true, ◌<◌, ◌≤◌, ◌-◌, ◌++◌, [], ◌∷◌, length, map, option_map, slice_get, get_or, Some, IfErr, IfOk, OnOk};
+ghost use Rattle.std.specs.Prelude.{◌≡◌, ◌≢◌, ℕ, List, true, ◌<◌, ◌≤◌, ◌-◌, ◌++◌, [], ◌∷◌, length, map, option_map, slice_get, get_or, Some, IfErr, IfOk, IfSome, IsErrOf, OnOk};
 ghost use Rattle.std.specs.List.{position_from};
+ghost use Rattle.std.specs.List.Sorted.{IsNonDecreasingBy};
 ghost use Rattle.std.specs.Option.{option_copied};
 ghost use Rattle.std.specs.Str.{bytes_eq};
 ghost use Rattle.sh_runs.specs.Calls as calls;
 ghost use Rattle.sh_table.specs.KeptTable as kept;
 ghost use Rattle.sh_table.specs.declared.table.Row as declared;
-ghost use Rattle.sh_tree.specs.declared.tree.Script.{Script};
+ghost use Rattle.sh_tree.specs.declared.tree.Script.{Script, out-Script};
 ghost use Rattle.sh_tree.specs.standard.program.Trees.{script_of};
 ghost use Rattle.sh_runs.specs.Numbering as numbering;
 ghost use Rattle.sh_table.specs.WordTexts.{text_in};
@@ -17,7 +18,7 @@ use crate::functions::Functions;
 use crate::word_text::WordText;
 use sh_runs::kind_of;
 use sh_tree::{MAX_COMMANDS, Refusal, Script};
-use std::alloc::Global;
+use std::alloc::{AllocError, Global};
 use std::marker::Model;
 
 /// A command, by its number, and the texts of its words.
@@ -34,6 +35,8 @@ pub struct CallTable<'s> {
     script: &'s [u8],
     functions: Functions,
     rows: Vec<Row>,
+    // The function that each row's command calls.
+    callees: Vec<Option<u32>>,
 }
 
 impl<'s> Model for CallTable<'s> {
@@ -47,23 +50,7 @@ impl<'s> Model for CallTable<'s> {
 
     ghost view = { λ t. kept.table_in t.script.now t.functions t.rows.items };
 
-    ghost invariant = { λ t. kept.IsKept t.functions t.rows.items };
-}
-
-#[tactic(auto, unfolding(crate::specs::KeptTable::first_row))]
-fn first_with(rows: &[Row], command: u32) -> Option<&Row>
-    ensures { option_copied result ≡ kept.first_row command rows.entry.now }
-{
-    match rows {
-        [] => None,
-        [first, ..] => {
-            if first.number == command {
-                Some(first)
-            } else {
-                None
-            }
-        }
-    }
+    ghost invariant = { λ t. kept.IsKept t.script.now t.functions t.rows.items t.callees.items };
 }
 
 // Whether the row at a place is the first with this number, if the numbers of rows do not fall.
@@ -76,6 +63,26 @@ fn is_first_at(rows: &[Row], place: usize, command: u32) -> bool
         return false;
     };
     row.number == command && (place == 0 || rows[place - 1].number < command)
+}
+
+// The place of the first row with this number. It is that of its number, if the rows have all
+// numbers from 1, as those of a script that was read do.
+fn place_of(rows: &[Row], command: u32) -> Option<usize>
+    requires { IsNonDecreasingBy (λ row. row.number) rows.now }
+    ensures place { result ≡ kept.place_with command rows.now }
+    ensures within { IfSome result (λ place. place < length rows.now) }
+{
+    let place = (command as usize).saturating_sub(1);
+    if is_first_at(rows, place, command) {
+        return Some(place);
+    }
+    let at = rows.partition_point(|row| row.number < command);
+    let row = rows.get(at)?;
+    if row.number == command {
+        Some(at)
+    } else {
+        None
+    }
 }
 
 #[tactic(auto, unfolding(sh_runs::specs::Calls::static_at))]
@@ -114,6 +121,50 @@ fn numbers_rise(rows: &[Row]) -> bool
     true
 }
 
+// The function that a name calls, by its place from 1.
+#[tactic(auto, unfolding(sh_runs::specs::Calls::called))]
+fn called(functions: &Functions, name: &[u8]) -> Option<u32>
+    requires { length functions.now.names ≤ MAX_COMMANDS }
+    ensures { result ≡ calls.called functions.now.names (Some name.now) }
+{
+    let place = functions.place(name)?;
+    if kind_of(name).is_special() {
+        return None;
+    }
+    Some(place as u32 + 1)
+}
+
+// The function that a row's command calls.
+fn callee_of(row: &Row, functions: &Functions, script: &[u8]) -> Option<u32>
+    requires { length functions.now.names ≤ MAX_COMMANDS }
+    ensures { result ≡ kept.callee_in script.now functions.now.names row.now }
+{
+    match functions.names() {
+        [] => None,
+        [_, ..] => {
+            let name = text_in_row(row, 0, script)?;
+            called(functions, name)
+        }
+    }
+}
+
+// The functions that the commands of rows call, in their order.
+fn callees_of(
+    alloc: Global,
+    rows: &[Row],
+    functions: &Functions,
+    script: &[u8],
+) -> Result<Vec<Option<u32>>, AllocError>
+    requires { length functions.now.names ≤ MAX_COMMANDS }
+    ensures { IfOk result (λ callees. callees.items ≡ map (kept.callee_in script.now functions.now.names) rows.now) }
+{
+    let mut callees = Vec::with_capacity(alloc, rows.len())?;
+    for row in rows {
+        callees.push(callee_of(row, functions, script))?;
+    }
+    Ok(callees)
+}
+
 impl<'s> CallTable<'s> {
     /// The table of a script.
     ///
@@ -121,11 +172,15 @@ impl<'s> CallTable<'s> {
     ///
     /// `TooMany` if there are more functions than a script may have commands. That is never so of a
     /// script that has no more of these than it may, as each has that was read. `Memory` if a
-    /// growth was refused.
+    /// growth was refused, which requires an item.
     pub fn new(alloc: Global, tree: &Script, script: &'s [u8]) -> Result<CallTable<'s>, Refusal>
         ensures tables { calls.Tables script.entry.now tree.now result }
         ensures counted { length (calls.table_of script.entry.now tree.now).rows ≤ MAX_COMMANDS → IfErr result (λ refusal. refusal ≡ Refusal.Memory) }
+        ensures memory { IsErrOf result Refusal.Memory → (out-Script tree.now).items ≢ [] }
     {
+        if tree.items.is_empty() {
+            return Ok(CallTable::empty(alloc, script));
+        }
         let Found {
             rows,
             definitions,
@@ -135,11 +190,28 @@ impl<'s> CallTable<'s> {
         if functions.len() > MAX_COMMANDS as usize {
             return Err(Refusal::TooMany);
         }
+        let callees = callees_of(alloc, rows.as_slice(), &functions, script)?;
         Ok(CallTable {
             script,
             functions,
             rows,
+            callees,
         })
+    }
+
+    // The table of a script without items.
+    fn empty(alloc: Global, script: &'s [u8]) -> CallTable<'s>
+        ensures { (t : Script) → (out-Script t).items ≡ [] → result ≡ calls.table_of script.entry.now t }
+    {
+        let functions = Functions::none(alloc);
+        let rows = Vec::new(alloc);
+        let callees = Vec::new(alloc);
+        CallTable {
+            script,
+            functions,
+            rows,
+            callees,
+        }
     }
 
     /// The commands by their numbers.
@@ -149,17 +221,12 @@ impl<'s> CallTable<'s> {
         self.rows.as_slice()
     }
 
-    // The first command with this number. It is at the place of its number, if the commands have all
-    // numbers from 1, as those of a script that was read do.
+    // The first command with this number.
     fn row(&self, command: u32) -> Option<&Row>
         ensures { kept.found_texts self.now.script (option_copied result) ≡ calls.texts_with command self.now.rows }
     {
-        let place = (command as usize).saturating_sub(1);
-        if is_first_at(self.rows.as_slice(), place, command) {
-            return Some(&self.rows[place]);
-        }
-        let at = self.rows.partition_point(|row| row.number < command);
-        first_with(&self.rows[at..], command)
+        let place = place_of(self.rows.as_slice(), command)?;
+        Some(&self.rows[place])
     }
 
     /// Whether the numbers of the commands rise, each above the one before it, as those of a script
@@ -224,26 +291,12 @@ impl<'s> CallTable<'s> {
         self.functions.definitions(function as usize - 1)
     }
 
-    // The function that a command calls.
-    fn called(&self, command: u32) -> Option<u32>
-        ensures { result ≡ calls.callee_at self.now command }
-    {
-        let name = self.text(command, 0)?;
-        if kind_of(name).is_special() {
-            return None;
-        }
-        let place = self.functions.place(name)?;
-        Some(place as u32 + 1)
-    }
-
     /// The function that a command calls, if it is a simple command whose name is static and a
     /// function's. The name is no special built-in utility's (XCU 2.9.1.4).
     pub fn callee(&self, command: u32) -> Option<u32>
         ensures { result ≡ calls.callee_at self.now command }
     {
-        match self.functions.names() {
-            [] => None,
-            [_, ..] => self.called(command),
-        }
+        let place = place_of(self.rows.as_slice(), command)?;
+        self.callees[place]
     }
 }

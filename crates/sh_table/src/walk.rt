@@ -6,8 +6,8 @@ ghost use Rattle.sh_table.specs.Walks as walks;
 
 use crate::site::Around;
 use sh_tree::{
-    AndOr, Binary, Branch, Clause, Command, Element, Expr, Item, Kind, Link, ParameterOperator,
-    Part, Pipe, Redirect, Script, Target, Word,
+    AndOr, Binary, Branch, Clause, Command, Element, Expr, Kind, ParameterOperator, Part, Pipe,
+    Script, Target, Word,
 };
 
 /// What is done at each command of a script.
@@ -72,7 +72,6 @@ impl Around {
 }
 
 #[cycle(walk)]
-#[tactic(auto, using(crate::proofs::WalkLemmas::script_out))]
 fn walk_script<V: Visitor>(
     around: Around,
     list: &Script,
@@ -81,44 +80,18 @@ fn walk_script<V: Visitor>(
 ) -> Result<(), V::Error>
     ensures { (k : V.Kept) → V.keeps script.now visitor.old k → OnOk result (V.keeps script.now visitor.new (fold V.with_command k (walks.of_script script.now around list.now))) }
 {
-    walk_items(around, list.items.as_slice(), script, visitor)
-}
-
-#[cycle(walk)]
-fn walk_items<V: Visitor>(
-    around: Around,
-    items: &[Item],
-    script: &[u8],
-    visitor: &mut V,
-) -> Result<(), V::Error>
-    ensures { (k : V.Kept) → V.keeps script.now visitor.old k → OnOk result (V.keeps script.now visitor.new (fold V.with_command k (flat_map (walks.of_item script.now around) items.now))) }
-{
-    for item in items {
-        walk_item(around, item, script, visitor)?;
+    for item in list.items.as_slice() {
+        walk_and_or(
+            around.round_item(item.background),
+            &item.list,
+            script,
+            visitor,
+        )?;
     }
     Ok(())
 }
 
 #[cycle(walk)]
-#[tactic(auto, using(crate::proofs::WalkLemmas::item_out))]
-fn walk_item<V: Visitor>(
-    around: Around,
-    item: &Item,
-    script: &[u8],
-    visitor: &mut V,
-) -> Result<(), V::Error>
-    ensures { (k : V.Kept) → V.keeps script.now visitor.old k → OnOk result (V.keeps script.now visitor.new (fold V.with_command k (walks.of_item script.now around item.now))) }
-{
-    walk_and_or(
-        around.round_item(item.background),
-        &item.list,
-        script,
-        visitor,
-    )
-}
-
-#[cycle(walk)]
-#[tactic(auto, using(crate::proofs::WalkLemmas::and_or_out))]
 fn walk_and_or<V: Visitor>(
     around: Around,
     list: &AndOr,
@@ -128,26 +101,13 @@ fn walk_and_or<V: Visitor>(
     ensures { (k : V.Kept) → V.keeps script.now visitor.old k → OnOk result (V.keeps script.now visitor.new (fold V.with_command k (walks.of_and_or script.now around list.now))) }
 {
     walk_pipe(around, &list.first, script, visitor)?;
-    walk_links(around, list.rest.as_slice(), script, visitor)
-}
-
-#[cycle(walk)]
-fn walk_links<V: Visitor>(
-    around: Around,
-    links: &[(Link, Pipe)],
-    script: &[u8],
-    visitor: &mut V,
-) -> Result<(), V::Error>
-    ensures { (k : V.Kept) → V.keeps script.now visitor.old k → OnOk result (V.keeps script.now visitor.new (fold V.with_command k (flat_map (walks.of_link script.now around) links.now))) }
-{
-    for link in links {
+    for link in list.rest.as_slice() {
         walk_pipe(around, &link.1, script, visitor)?;
     }
     Ok(())
 }
 
 #[cycle(walk)]
-#[tactic(auto, using(crate::proofs::WalkLemmas::pipe_out))]
 fn walk_pipe<V: Visitor>(
     around: Around,
     pipe: &Pipe,
@@ -157,26 +117,14 @@ fn walk_pipe<V: Visitor>(
     ensures { (k : V.Kept) → V.keeps script.now visitor.old k → OnOk result (V.keeps script.now visitor.new (fold V.with_command k (walks.of_pipe script.now around pipe.now))) }
 {
     let parts = pipe.parts.as_slice();
-    walk_commands(around.round_parts(parts.len()), parts, script, visitor)
-}
-
-#[cycle(walk)]
-fn walk_commands<V: Visitor>(
-    around: Around,
-    commands: &[Command],
-    script: &[u8],
-    visitor: &mut V,
-) -> Result<(), V::Error>
-    ensures { (k : V.Kept) → V.keeps script.now visitor.old k → OnOk result (V.keeps script.now visitor.new (fold V.with_command k (flat_map (walks.of_command script.now around) commands.now))) }
-{
-    for command in commands {
-        walk_command(around, command, script, visitor)?;
+    let inner = around.round_parts(parts.len());
+    for command in parts {
+        walk_command(inner, command, script, visitor)?;
     }
     Ok(())
 }
 
 #[cycle(walk)]
-#[tactic(auto, using(crate::proofs::WalkLemmas::command_out))]
 fn walk_command<V: Visitor>(
     around: Around,
     command: &Command,
@@ -187,18 +135,7 @@ fn walk_command<V: Visitor>(
 {
     visitor.visit(around, command, script)?;
     walk_kind(around, &command.kind, script, visitor)?;
-    walk_redirects(command.redirects.as_slice(), script, visitor)
-}
-
-#[cycle(walk)]
-fn walk_redirects<V: Visitor>(
-    redirects: &[Redirect],
-    script: &[u8],
-    visitor: &mut V,
-) -> Result<(), V::Error>
-    ensures { (k : V.Kept) → V.keeps script.now visitor.old k → OnOk result (V.keeps script.now visitor.new (fold V.with_command k (flat_map (walks.of_redirect script.now) redirects.now))) }
-{
-    for redirect in redirects {
+    for redirect in command.redirects.as_slice() {
         walk_target(&redirect.target, script, visitor)?;
     }
     Ok(())
@@ -303,23 +240,10 @@ fn walk_branches<V: Visitor>(
     ensures { (k : V.Kept) → V.keeps script.now visitor.old k → OnOk result (V.keeps script.now visitor.new (fold V.with_command k (flat_map (walks.of_branch script.now around) branches.now))) }
 {
     for branch in branches {
-        walk_branch(around, branch, script, visitor)?;
+        walk_script(around, &branch.condition, script, visitor)?;
+        walk_script(around, &branch.body, script, visitor)?;
     }
     Ok(())
-}
-
-#[cycle(walk)]
-#[tactic(auto, using(crate::proofs::WalkLemmas::branch_out))]
-fn walk_branch<V: Visitor>(
-    around: Around,
-    branch: &Branch,
-    script: &[u8],
-    visitor: &mut V,
-) -> Result<(), V::Error>
-    ensures { (k : V.Kept) → V.keeps script.now visitor.old k → OnOk result (V.keeps script.now visitor.new (fold V.with_command k (walks.of_branch script.now around branch.now))) }
-{
-    walk_script(around, &branch.condition, script, visitor)?;
-    walk_script(around, &branch.body, script, visitor)
 }
 
 #[cycle(walk)]
@@ -349,23 +273,10 @@ fn walk_clauses<V: Visitor>(
     ensures { (k : V.Kept) → V.keeps script.now visitor.old k → OnOk result (V.keeps script.now visitor.new (fold V.with_command k (flat_map (walks.of_clause script.now around) clauses.now))) }
 {
     for clause in clauses {
-        walk_clause(around, clause, script, visitor)?;
+        walk_words(clause.patterns.as_slice(), script, visitor)?;
+        walk_script(around, &clause.body, script, visitor)?;
     }
     Ok(())
-}
-
-#[cycle(walk)]
-#[tactic(auto, using(crate::proofs::WalkLemmas::clause_out))]
-fn walk_clause<V: Visitor>(
-    around: Around,
-    clause: &Clause,
-    script: &[u8],
-    visitor: &mut V,
-) -> Result<(), V::Error>
-    ensures { (k : V.Kept) → V.keeps script.now visitor.old k → OnOk result (V.keeps script.now visitor.new (fold V.with_command k (walks.of_clause script.now around clause.now))) }
-{
-    walk_words(clause.patterns.as_slice(), script, visitor)?;
-    walk_script(around, &clause.body, script, visitor)
 }
 
 #[cycle(walk)]

@@ -1,30 +1,67 @@
-use Rattle.std.proofs.Common.{ap, ◌∙◌}
+use Rattle.std.proofs.Common.{◌∷◌, refl, sym, ap, ◌∙◌}
 use Rattle.std.specs.List.{flat_map}
 use Rattle.sh_tree.specs.declared.tree.AndOr.{out-AndOr}
 use Rattle.sh_tree.specs.declared.tree.Branch.{out-Branch}
 use Rattle.sh_tree.specs.declared.tree.Clause.{out-Clause}
 use Rattle.sh_tree.specs.declared.tree.Command.{out-Command}
-use Rattle.sh_table.proofs.WalkLemmas.{and_or_out, branch_out, clause_out, command_out, of_kind-Cond, of_kind-Loop, of_kind-For-None, of_kind-For-Some, of_kind-Branches, of_operator-Value, of_operator-Length, of_expression-Constant, of_expression-Variable, of_expression-Chain, of_expression-Choice, of_part-Plain, of_part-Escaped, of_part-Single, of_part-Tilde, of_part-Joined, both, visited, thrice, nothing_visited}
+use Rattle.sh_tree.specs.declared.tree.Item.{out-Item}
+use Rattle.sh_table.proofs.WalkLemmas.{script_out, item_out, and_or_out, pipe_out, branch_out, clause_out, command_out, of_kind-Cond, of_kind-Loop, of_kind-For-None, of_kind-For-Some, of_kind-Branches, of_operator-Value, of_operator-Length, of_expression-Constant, of_expression-Variable, of_expression-Chain, of_expression-Choice, of_part-Plain, of_part-Escaped, of_part-Single, of_part-Tilde, of_part-Joined, joined, both, thrice, turned, ended, nothing_visited}
 use Rattle.sh_table.specs.Walks as spec
 use Rattle.sh_table.proofs.walk.+walk.Goals as goal
 
+-- loops over a field
+
+pub walk_script-loop-item-preserved : goal.walk_script-loop-item-preserved
+walk_script-loop-item-preserved g t c = λ k h.
+    turned (g.V.Visitor.keeps c.args.script.now _) _ (spec.of_item c.args.script.now c.args.around) c.loop-item.item-index c.as_slice-item-items.result.now c.item-item.result k _ c.loop-item-test.true c.item-item.is
+    (item_out c.args.script.now c.args.around c.item-item.result ∙ ap (λ y. spec.of_and_or c.args.script.now y (out-Item c.item-item.result).list) (sym c.round_item.ensures))
+    (c.in_ok-walk_and_or.ensures _ (c.loop-item.invariant k h))
+
+pub walk_script-returns : goal.walk_script-returns
+walk_script-returns g t c = λ k h.
+    ended (g.V.Visitor.keeps c.args.script.now _) _ (spec.of_item c.args.script.now c.args.around) c.loop-item.item-index c.as_slice-item-items.result.now k _ c.loop-item-test.false
+    (script_out c.args.script.now c.args.around c.args.list.now ∙ ap (flat_map (spec.of_item c.args.script.now c.args.around)) (sym c.as_slice-item-items.ensures))
+    (c.loop-item.invariant k h)
+
 pub walk_and_or-returns : goal.walk_and_or-returns
 walk_and_or-returns g t c = λ k h.
-    both (g.V.Visitor.keeps c.args.script.now c.walk_links.new.visitor) c.walk_links.result _ k (spec.of_pipe c.args.script.now c.args.around (out-AndOr c.args.list.now).first) (flat_map (spec.of_link c.args.script.now c.args.around) (out-AndOr c.args.list.now).rest) _
+    joined (g.V.Visitor.keeps c.args.script.now _) _ k (spec.of_pipe c.args.script.now c.args.around (out-AndOr c.args.list.now).first) (flat_map (spec.of_link c.args.script.now c.args.around) (out-AndOr c.args.list.now).rest) _
     (and_or_out c.args.script.now c.args.around c.args.list.now)
-    (rw c.as_slice.ensures at (c.walk_links.ensures _ (c.in_ok-walk_pipe.ensures k h)))
+    (ended (g.V.Visitor.keeps c.args.script.now _) _ (spec.of_link c.args.script.now c.args.around) c.loop-link.link-index c.as_slice-link-items.result.now _ _ c.loop-link-test.false
+    (ap (flat_map (spec.of_link c.args.script.now c.args.around)) (sym c.as_slice-link-items.ensures))
+    (c.loop-link.invariant _ (c.in_ok-walk_pipe.ensures k h)))
 
-pub walk_branch-returns : goal.walk_branch-returns
-walk_branch-returns g t c = λ k h.
-    both (g.V.Visitor.keeps c.args.script.now c.walk_script-2.new.visitor) c.walk_script-2.result _ k (spec.of_script c.args.script.now c.args.around (out-Branch c.args.branch.now).condition) (spec.of_script c.args.script.now c.args.around (out-Branch c.args.branch.now).body) _
-    (branch_out c.args.script.now c.args.around c.args.branch.now)
-    (c.walk_script-2.ensures _ (c.in_ok-walk_script.ensures k h))
+pub walk_pipe-returns : goal.walk_pipe-returns
+walk_pipe-returns g t c = λ k h.
+    ended (g.V.Visitor.keeps c.args.script.now _) _ (spec.of_command c.args.script.now c.round_parts-inner.result) c.loop-command.command-index c.as_slice-parts.result.now k _ c.loop-command-test.false
+    (pipe_out c.args.script.now c.args.around c.args.pipe.now ∙ rw (c.round_parts-inner.ensures, c.as_slice-parts.ensures) refl)
+    (c.loop-command.invariant k h)
 
-pub walk_clause-returns : goal.walk_clause-returns
-walk_clause-returns g t c = λ k h.
-    both (g.V.Visitor.keeps c.args.script.now c.walk_script.new.visitor) c.walk_script.result _ k (flat_map (spec.of_word c.args.script.now) (out-Clause c.args.clause.now).patterns) (spec.of_script c.args.script.now c.args.around (out-Clause c.args.clause.now).body) _
-    (clause_out c.args.script.now c.args.around c.args.clause.now)
-    (c.walk_script.ensures _ (rw c.as_slice.ensures at (c.in_ok-walk_words.ensures k h)))
+pub walk_command-returns : goal.walk_command-returns
+walk_command-returns g t c = λ k h.
+    joined (g.V.Visitor.keeps c.args.script.now _) _ k (spec.located c.args.script.now c.args.around c.args.command.now ∷ spec.of_kind c.args.script.now c.args.around (out-Command c.args.command.now).kind) (flat_map (spec.of_redirect c.args.script.now) (out-Command c.args.command.now).redirects) _
+    (command_out c.args.script.now c.args.around c.args.command.now)
+    (ended (g.V.Visitor.keeps c.args.script.now _) _ (spec.of_redirect c.args.script.now) c.loop-redirect.redirect-index c.as_slice-redirect-items.result.now _ _ c.loop-redirect-test.false
+    (ap (flat_map (spec.of_redirect c.args.script.now)) (sym c.as_slice-redirect-items.ensures))
+    (c.loop-redirect.invariant _ (c.in_ok-walk_kind.ensures _ (c.in_ok-visit.ensures k h))))
+
+-- two pieces in a turn
+
+pub walk_branches-loop-branch-preserved : goal.walk_branches-loop-branch-preserved
+walk_branches-loop-branch-preserved g t c = λ k h.
+    turned (g.V.Visitor.keeps c.args.script.now _) _ (spec.of_branch c.args.script.now c.args.around) c.loop-branch.branch-index c.args.branches.now c.branch-item.result k _ c.loop-branch-test.true c.branch-item.is refl
+    (joined (g.V.Visitor.keeps c.args.script.now _) _ _ (spec.of_script c.args.script.now c.args.around (out-Branch c.branch-item.result).condition) (spec.of_script c.args.script.now c.args.around (out-Branch c.branch-item.result).body) _
+    (branch_out c.args.script.now c.args.around c.branch-item.result)
+    (c.in_ok-walk_script-2.ensures _ (c.in_ok-walk_script.ensures _ (c.loop-branch.invariant k h))))
+
+pub walk_clauses-loop-clause-preserved : goal.walk_clauses-loop-clause-preserved
+walk_clauses-loop-clause-preserved g t c = λ k h.
+    turned (g.V.Visitor.keeps c.args.script.now _) _ (spec.of_clause c.args.script.now c.args.around) c.loop-clause.clause-index c.args.clauses.now c.clause-item.result k _ c.loop-clause-test.true c.clause-item.is refl
+    (joined (g.V.Visitor.keeps c.args.script.now _) _ _ (flat_map (spec.of_word c.args.script.now) (out-Clause c.clause-item.result).patterns) (spec.of_script c.args.script.now c.args.around (out-Clause c.clause-item.result).body) _
+    (clause_out c.args.script.now c.args.around c.clause-item.result)
+    (c.in_ok-walk_script.ensures _ (rw c.as_slice.ensures at (c.in_ok-walk_words.ensures _ (c.loop-clause.invariant k h)))))
+
+-- the rest
 
 pub walk_operator-returns-in-Value : goal.walk_operator-returns-in-Value
 walk_operator-returns-in-Value g t c = λ k h.
@@ -33,12 +70,6 @@ walk_operator-returns-in-Value g t c = λ k h.
 pub walk_operator-returns-in-Length : goal.walk_operator-returns-in-Length
 walk_operator-returns-in-Length g t c = λ k h.
     nothing_visited (g.V.Visitor.keeps c.args.script.now c.args.visitor.now) _ k _ (ap (spec.of_operator c.args.script.now) c.in-Length.is ∙ of_operator-Length c.args.script.now) h
-
-pub walk_command-returns : goal.walk_command-returns
-walk_command-returns g t c = λ k h.
-    visited (g.V.Visitor.keeps c.args.script.now c.walk_redirects.new.visitor) c.walk_redirects.result _ k _ (spec.of_kind c.args.script.now c.args.around (out-Command c.args.command.now).kind) (flat_map (spec.of_redirect c.args.script.now) (out-Command c.args.command.now).redirects) _
-    (command_out c.args.script.now c.args.around c.args.command.now)
-    (rw c.as_slice.ensures at (c.walk_redirects.ensures _ (c.in_ok-walk_kind.ensures _ (c.in_ok-visit.ensures k h))))
 
 pub walk_kind-returns-in_ok-walk_branches-in-Cond : goal.walk_kind-returns-in_ok-walk_branches-in-Cond
 walk_kind-returns-in_ok-walk_branches-in-Cond g t c = λ k h.

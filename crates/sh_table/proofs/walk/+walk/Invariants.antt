@@ -5,21 +5,21 @@ use Rattle.sh_table.proofs.walk.+walk.Given as goal
 
 -- In each loop the visitor keeps the commands of the pieces so far.
 
-abbrev pub invariant-walk_items-loop-item : goal.invariant-walk_items-loop-item
-invariant-walk_items-loop-item g l =
-    (k : g.V.Visitor.Kept) → g.V.Visitor.keeps l.script l.initial.visitor k → g.V.Visitor.keeps l.script l.visitor (fold g.V.Visitor.with_command k (flat_map (spec.of_item l.script l.around) (take l.item-index l.items)))
+abbrev pub invariant-walk_script-loop-item : goal.invariant-walk_script-loop-item
+invariant-walk_script-loop-item g l =
+    (k : g.V.Visitor.Kept) → g.V.Visitor.keeps l.script l.initial.visitor k → g.V.Visitor.keeps l.script l.visitor (fold g.V.Visitor.with_command k (flat_map (spec.of_item l.script l.around) (take l.item-index l.item-items)))
 
-abbrev pub invariant-walk_links-loop-link : goal.invariant-walk_links-loop-link
-invariant-walk_links-loop-link g l =
-    (k : g.V.Visitor.Kept) → g.V.Visitor.keeps l.script l.initial.visitor k → g.V.Visitor.keeps l.script l.visitor (fold g.V.Visitor.with_command k (flat_map (spec.of_link l.script l.around) (take l.link-index l.links)))
+abbrev pub invariant-walk_and_or-loop-link : goal.invariant-walk_and_or-loop-link
+invariant-walk_and_or-loop-link g l =
+    (k : g.V.Visitor.Kept) → g.V.Visitor.keeps l.script l.initial.visitor k → g.V.Visitor.keeps l.script l.visitor (fold g.V.Visitor.with_command k (flat_map (spec.of_link l.script l.around) (take l.link-index l.link-items)))
 
-abbrev pub invariant-walk_commands-loop-command : goal.invariant-walk_commands-loop-command
-invariant-walk_commands-loop-command g l =
-    (k : g.V.Visitor.Kept) → g.V.Visitor.keeps l.script l.initial.visitor k → g.V.Visitor.keeps l.script l.visitor (fold g.V.Visitor.with_command k (flat_map (spec.of_command l.script l.around) (take l.command-index l.commands)))
+abbrev pub invariant-walk_pipe-loop-command : goal.invariant-walk_pipe-loop-command
+invariant-walk_pipe-loop-command g l =
+    (k : g.V.Visitor.Kept) → g.V.Visitor.keeps l.script l.initial.visitor k → g.V.Visitor.keeps l.script l.visitor (fold g.V.Visitor.with_command k (flat_map (spec.of_command l.script l.inner) (take l.command-index l.parts)))
 
-abbrev pub invariant-walk_redirects-loop-redirect : goal.invariant-walk_redirects-loop-redirect
-invariant-walk_redirects-loop-redirect g l =
-    (k : g.V.Visitor.Kept) → g.V.Visitor.keeps l.script l.initial.visitor k → g.V.Visitor.keeps l.script l.visitor (fold g.V.Visitor.with_command k (flat_map (spec.of_redirect l.script) (take l.redirect-index l.redirects)))
+abbrev pub invariant-walk_command-loop-redirect : goal.invariant-walk_command-loop-redirect
+invariant-walk_command-loop-redirect g l =
+    (k : g.V.Visitor.Kept) → g.V.Visitor.keeps l.script l.initial.visitor k → g.V.Visitor.keeps l.script l.visitor (fold g.V.Visitor.with_command k (flat_map (spec.of_redirect l.script) (take l.redirect-index l.redirect-items)))
 
 abbrev pub invariant-walk_elements-loop-element : goal.invariant-walk_elements-loop-element
 invariant-walk_elements-loop-element g l =

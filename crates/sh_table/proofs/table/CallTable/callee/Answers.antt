@@ -1,13 +1,13 @@
-use Rattle.std.proofs.Common.{length, ap, arith, ◌∙◌}
-use Rattle.std.proofs.lemmas.List.{length-map}
-use Rattle.sh_runs.specs.Calls.{Table}
-use Rattle.sh_table.proofs.TableLemmas.{none_called}
+use Rattle.sh_table.proofs.TableLemmas.{no_callee, callee_there}
 use Rattle.sh_table.proofs.table.CallTable.callee.Goals as goal
 
-pub returns-in-empty : goal.returns-in-empty
-returns-in-empty c =
-    let there = c.names.ensures ∙ ap (λ (x : Table). x.functions.names) c.self.view_is in
-    let same = ap length there in
-    let count = length-map c.names.result.now (λ v. v.items) in
-    let few = c.in-empty.len_below in
-    none_called c.args.self.now c.args.command (omega (arith, same, count, few))
+pub returns-in_err-place : goal.returns-in_err-place
+returns-in_err-place c =
+    let place = rw c.as_slice.ensures.value at c.in_err-place.ensures.place in
+    rw (c.from_residual.ensures, ← c.self.view_is) (no_callee _ _ c.self.inside.rows.items c.args.command place)
+
+pub returns : goal.returns
+returns c =
+    let found = rw c.as_slice.ensures.value at c.in_ok-place.ensures in
+    rw (← c.self.view_is)
+    (callee_there _ _ c.self.inside.rows.items c.self.inside.callees.items c.args.command c.in_ok-place.place c.index.result.now c.self.invariant.callees found.place found.within c.index.ensures)

@@ -5,6 +5,9 @@ use Rattle.sh_runs.specs.Sites.{sites_of}
 use Rattle.sh_table.proofs.TableLemmas.{functions_whole, table_whole, names_few, kept}
 use Rattle.sh_table.proofs.table.CallTable.new.Goals as goal
 
+pub returns-then-is_empty-clause-tables : goal.returns-then-is_empty-clause-tables
+returns-then-is_empty-clause-tables c = c.empty.ensures c.args.tree.now (c.is_empty.ensures.0 c.if-is_empty.true)
+
 pub returns-then-len-clause-tables : goal.returns-then-len-clause-tables
 returns-then-len-clause-tables c =
     let b = c.args.script.now in
@@ -29,7 +32,8 @@ invariant_of-result c =
     let b = c.args.script.now in
     let size = c.len.ensures in
     let few = c.if-len.false in
-    kept b c.args.tree.now c.in_ok-functions.functions _ (rw size at few) c.in_ok-rows.ensures.rows
+    let callees = rw c.as_slice-2.ensures.value at c.in_ok-callees.ensures in
+    kept b c.args.tree.now c.in_ok-functions.functions _ _ (rw size at few) c.in_ok-rows.ensures.rows callees
 
 pub returns-clause-tables : goal.returns-clause-tables
 returns-clause-tables c =
