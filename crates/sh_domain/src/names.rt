@@ -13,22 +13,24 @@ use std::alloc::Global;
 use std::marker::Model;
 
 /// The names of a script: those that every script has, those of its policy and those in its text.
-/// They are numbered from 0, in the order in which they are first seen.
+/// They are numbered from 0, in the order in which they are first seen. The number of `!` is kept,
+/// since each asynchronous item sets it.
 #[derive(Debug, Drop)]
 pub struct Names {
     set: NameSet,
     order: Vec<u32>,
+    job: Option<u32>,
 }
 
 impl Model for Names {
     ghost use Rattle.std.specs.Prelude.{List, ℕ};
-    ghost use Rattle.sh_domain.specs.Numbered.{IsByteOrder};
+    ghost use Rattle.sh_domain.specs.Numbered.{AreKept};
 
     ghost Value = { List (List ℕ) };
 
     ghost view = { λ n. n.set };
 
-    ghost invariant = { λ n. IsByteOrder n.set n.order.items };
+    ghost invariant = { λ n. AreKept n.set n.order.items n.job };
 }
 
 impl Names {
@@ -51,7 +53,8 @@ impl Names {
     {
         let set = NameSet::new(alloc, tree, script, policy)?;
         let order = in_byte_order(alloc, &set)?;
-        Ok(Names { set, order })
+        let job = set.number(b"!");
+        Ok(Names { set, order, job })
     }
 
     /// How many names there are. No name is there twice.
@@ -75,6 +78,9 @@ impl Names {
         ensures number { result ≡ number_of self.now name.now }
         ensures below { IfSome result (λ n. n < MAX_NAMES) }
     {
+        if name == b"!".as_slice() {
+            return self.job;
+        }
         self.set.number(name)
     }
 

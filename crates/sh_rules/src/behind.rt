@@ -232,26 +232,25 @@ impl Behind {
         self.pass_links(claims, list.rest.as_slice());
     }
 
-    // Goes on after an asynchronous item, whose status is zero.
+    // An asynchronous item has status zero, and sets `!`.
     #[tactic(auto, using(crate::proofs::BehindLemmas::nothing_known))]
-    fn pass_background(&mut self, claims: &Claims<'_>, known: &Knowledge)
-        ensures { walks.behind_in (setting claims.now) self.new ≡ spec.either (gained (setting claims.now) (named (job ∷ [])) (facts_in (setting claims.now) known.now)) NotReached }
+    fn start(&mut self, claims: &Claims<'_>)
+        ensures { walks.behind_in (setting claims.now) self.new ≡ spec.either (gained (setting claims.now) (named (job ∷ [])) (facts_in (setting claims.now) self.old.zero)) NotReached }
     {
-        self.zero = *known;
         gain_variable(claims, b"!", &mut self.zero);
         self.nonzero = Knowledge::NotReached;
     }
 
-    /// Goes on after an item before which this is known in any case: an asynchronous one has status
-    /// zero, and sets `!`.
+    /// Goes on after an item, if what is known at zero is known whatever the status was.
     #[tactic(auto, using(crate::proofs::BehindLemmas::foreground, crate::proofs::BehindLemmas::background))]
-    pub fn pass_known(&mut self, claims: &Claims<'_>, known: &Knowledge, item: &Item)
-        ensures { walks.behind_in (setting claims.now) self.new ≡ walks.behind_item (setting claims.now) (facts_in (setting claims.now) known.now) item.now }
+    pub fn pass_joined(&mut self, claims: &Claims<'_>, item: &Item)
+        ensures { walks.behind_in (setting claims.now) self.new ≡ walks.behind_item (setting claims.now) (facts_in (setting claims.now) self.old.zero) item.now }
     {
         if item.background {
-            self.pass_background(claims, known);
+            self.start(claims);
         } else {
-            self.pass_and_or(claims, known, &item.list);
+            let known = self.zero;
+            self.pass_and_or(claims, &known, &item.list);
         }
     }
 
@@ -270,9 +269,8 @@ impl Behind {
     fn pass_any(&mut self, claims: &Claims<'_>, item: &Item)
         ensures { walks.behind_in (setting claims.now) self.new ≡ walks.item_left (setting claims.now) (walks.behind_in (setting claims.now) self.old) item.now }
     {
-        let mut known = self.zero;
-        meet(&mut known, &self.nonzero);
-        self.pass_known(claims, &known, item);
+        self.join();
+        self.pass_joined(claims, item);
     }
 
     // Goes on after an item that is no asynchronous one.

@@ -117,8 +117,7 @@ fn pass_joined(claims: &Claims<'_>, behind: &mut Behind, item: &Item)
     if is_settled(item) {
         behind.pass_item(claims, item);
     } else {
-        let known = behind.zero;
-        behind.pass_known(claims, &known, item);
+        behind.pass_joined(claims, item);
     }
 }
 
