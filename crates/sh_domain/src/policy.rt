@@ -1,5 +1,5 @@
 //! What is set when a script starts.
-ghost use Rattle.std.specs.Prelude.{◌≡◌, true, not, map, position, IfOk};
+ghost use Rattle.std.specs.Prelude.{◌≡◌, ◌<◌, true, not, length, map, position, IfOk, OnErr};
 ghost use Rattle.std.specs.List.{list_all};
 ghost use Rattle.sh_tree.specs.standard.language.Bytes as bytes;
 
@@ -66,8 +66,8 @@ impl Policy {
     ///
     /// # Errors
     ///
-    /// `BadName` with the index of the first text that is no name, whatever memory there is;
-    /// `Memory` if a growth was refused.
+    /// `BadName` with the index of the first text that is no name, whatever memory there is.
+    /// `Memory` if a growth was refused, which requires a name.
     #[tactic(auto, using(crate::proofs::PolicyLemmas::first_bad_mapped, crate::proofs::PolicyLemmas::copies_named))]
     pub fn new(alloc: Global, names: &[&[u8]], args: u16) -> Result<Policy, PolicyFault>
         ensures { Makes (map (λ s. s.now) names.now) args result }
@@ -104,7 +104,8 @@ fn first_bad(texts: &[&[u8]]) -> Option<usize>
 }
 
 fn copies_of(alloc: Global, texts: &[&[u8]]) -> Result<Vec<Vec<u8>>, AllocError>
-    ensures { IfOk result (λ v. map (λ t. t.items) v.items ≡ map (λ s. s.now) texts.now) }
+    ensures copies { IfOk result (λ v. map (λ t. t.items) v.items ≡ map (λ s. s.now) texts.now) }
+    ensures memory { OnErr result (0 < length texts.now) }
 {
     let mut copies = Vec::with_capacity(alloc, texts.len())?;
     for text in texts {
