@@ -220,31 +220,31 @@ fn shset_command<'a>(alloc: Global) -> Result<Command<'a>, AllocError>
         "lint",
         "Prints what is wrong with a script, or that it is clean",
     )?;
-    let cert = certifying_command(
-        alloc,
-        "cert",
-        "Prints what is surely set at the start, in loops and round functions, as a certificate",
-    )?;
-    let check = checking_command(
-        alloc,
-        "check",
-        "Prints what is wrong with a script by a certificate of it, or that it is clean",
-    )?;
-    let print = printing_command(
-        alloc,
-        "print",
-        "Prints a script in one layout, without its comments",
-    )?;
-    Command::new(alloc, "shset")
+    let command = Command::new(alloc, "shset")
         .about("Looks in shell scripts for variables that may be unset and words that may be split")
         .subcommand_required(true)
         .disable_help_subcommand(true)
         .version(VERSION)
         .after_help(AFTER_HELP)
-        .subcommand(lint)?
-        .subcommand(cert)?
-        .subcommand(check)?
-        .subcommand(print)
+        .subcommand(lint)?;
+    let cert = certifying_command(
+        alloc,
+        "cert",
+        "Prints what is surely set at the start, in loops and round functions, as a certificate",
+    )?;
+    let command = command.subcommand(cert)?;
+    let check = checking_command(
+        alloc,
+        "check",
+        "Prints what is wrong with a script by a certificate of it, or that it is clean",
+    )?;
+    let command = command.subcommand(check)?;
+    let print = printing_command(
+        alloc,
+        "print",
+        "Prints a script in one layout, without its comments",
+    )?;
+    command.subcommand(print)
 }
 
 fn stop_of(alloc: Global, error: Error) -> Stop

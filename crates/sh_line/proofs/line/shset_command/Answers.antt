@@ -10,9 +10,9 @@ top = on_top (λ s. record s { subcommand_required = true; disable_help_subcomma
 pub returns : goal.returns
 returns c =
     let base : app_of c.after_help.result ≡ top = search rules in
-    let lint = c.in_ok-subcommand.ensures.shape c.in_ok-lint.ensures.local ∙ ap₂ with_subcommand base (ap (λ (a : App). a.top) c.in_ok-lint.ensures.app) in
-    let cert = c.in_ok-subcommand-2.ensures.shape c.in_ok-cert.ensures.local ∙ ap₂ with_subcommand lint (ap (λ (a : App). a.top) c.in_ok-cert.ensures.app) in
-    let check = c.in_ok-subcommand-3.ensures.shape c.in_ok-check.ensures.local ∙ ap₂ with_subcommand cert (ap (λ (a : App). a.top) c.in_ok-check.ensures.app) in
+    let lint = c.in_ok-command.ensures.shape c.in_ok-lint.ensures.local ∙ ap₂ with_subcommand base (ap (λ (a : App). a.top) c.in_ok-lint.ensures.app) in
+    let cert = c.in_ok-command-2.ensures.shape c.in_ok-cert.ensures.local ∙ ap₂ with_subcommand lint (ap (λ (a : App). a.top) c.in_ok-cert.ensures.app) in
+    let check = c.in_ok-command-3.ensures.shape c.in_ok-check.ensures.local ∙ ap₂ with_subcommand cert (ap (λ (a : App). a.top) c.in_ok-check.ensures.app) in
     IfOk-weaker c.subcommand-4.result _ _
     (λ r h. h.shape c.in_ok-print.ensures.local ∙ ap₂ with_subcommand check (ap (λ (a : App). a.top) c.in_ok-print.ensures.app))
     c.subcommand-4.ensures
