@@ -173,11 +173,6 @@ none_follows es e same none v s =
     let one : v e.count.index ≡ v e.source.index = ap v same in
     subst (λ (h : Change). v e.count.index ≤ made h (v e.source.index)) (sym none) (let P : v e.count.index ≤ max (v e.source.index) 0 = omega arith in P)
 
-pub first_sound : (es : Equations) (counts : List ℕ) → counts ≡ es.most.items → IsSound es counts
-first_sound es counts same = record {
-  above = λ v s i. subst (λ (c : List ℕ). v i ≤ worth c i) (sym same) (s.below i);
-}
-
 -- what is found is the greatest
 pub greatest_found : (es : Equations) (counts now : List ℕ) (all : List Equation) → all ≡ es.all.items
     → Fell es.most.items counts → IsSound es counts → (All (Follows es) all → IsSound es counts → IsSound es now) → Fell counts now → IsSettled now all

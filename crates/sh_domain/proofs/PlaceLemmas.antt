@@ -74,10 +74,6 @@ pub parted_by : (names : List Text) (i : ℕ) (order : List Numbered) (t : Text)
     → IsPartitionedBy (λ other. not (precedes t other.name.now)) order
 parted_by names i order t e = parted t order (subst Ordered (sym e) (all_ordered [] (take i (numbered 0 names)) tt))
 
-not_false : (b : Bool) → not b ≡ false → b ≡ true
-not_false true e = refl
-not_false false e = absurd (true≢false e)
-
 pub is_point : (t : Text) (xs : List Numbered) (i : ℕ) → i ≤ length xs
     → IsPartitionPoint (λ other. not (precedes t other.name.now) ≡ true) (λ other. not (precedes t other.name.now) ≡ false) xs i
     → i ≡ position_or_len (λ other. precedes t other.name.now) xs

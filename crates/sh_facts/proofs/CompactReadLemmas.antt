@@ -29,8 +29,6 @@ use Rattle.sh_facts.proofs.ReadingLemmas.{stay_on}
 -- The numbers of the loops
 
 -- those of the first commands
-pub numbers_begin : (commands : List (Bor Command)) → [] ++ loop_numbers (1 + 0) (loops_of (drop 0 commands)) ≡ loop_numbers 1 (loops_of commands)
-numbers_begin commands = refl
 
 pub numbers_on : (commands : List (Bor Command)) (j : ℕ) (command : Bor Command) (numbers : List ℕ) (l : Bool) → j < length commands → command ≡ get_or commands j command → is_loop command.now ≡ l
     → numbers ++ loop_numbers (1 + j) (loops_of (drop j commands)) ≡ loop_numbers 1 (loops_of commands) → numbers ++ loop_numbers (1 + j) (l ∷ loops_of (drop (j + 1) commands)) ≡ loop_numbers 1 (loops_of commands)

@@ -30,9 +30,6 @@ turns_written order rows hs i h init out new e w s =
     ∙ append_assoc init (turn_lines so_far) (line (turn_fields (turn h)))
     ∙ ap (λ u. init ++ u) (sym (lines_append so_far (turn h)) ∙ ap turn_lines (sym (map-append turn (take i hs) (h ∷ []))) ∙ ap (λ xs. turn_lines (map turn xs)) (sym front))
 
-pub all_turns : (order : List (ℕ × Text)) (rows : KeptRows) (hs : List (ℕ × value.Facts)) (i : ℕ) (init out : Text) → length hs ≤ i → out ≡ init ++ turn_lines (turns_of order rows (take i hs)) → out ≡ init ++ turn_lines (turns_of order rows hs)
-all_turns order rows hs i init out l w = w ∙ ap (λ xs. init ++ turn_lines (turns_of order rows xs)) (take_all i hs l)
-
 pub compact_written : (order : List (ℕ × Text)) (c : Compact) (none first counts start turns functions : Text) → none ≡ []
     → first ≡ none ++ line (compact_line ∷ []) → counts ≡ first ++ line (compact_counts c.commands (length c.functions.items) (length c.heads.entries))
     → start ≡ counts ++ line (start_fields (claim_of order c.rows c.start)) → turns ≡ start ++ turn_lines (turns_of order c.rows c.heads.entries)

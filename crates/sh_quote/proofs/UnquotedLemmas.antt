@@ -169,10 +169,6 @@ pub on_err : {X E P : Type 0} (r : Result X E) → P → OnErr r P
 on_err (Ok x) p = tt
 on_err (Err e) p = p
 
-pub some_place : (o : Option ℕ) (at : ℕ) (ps : List Place) → o ≡ Some at → told o ≡ ps → 0 < length ps
-unfolding told told_at
-some_place o at ps e h = subst (λ qs. 0 < length qs) h (subst (λ x. 0 < length (told x)) (sym e) (omega arith))
-
 pub some_in : {A : Type 0} (f : A → List Place) (xs : List A) (i : ℕ) (x : A) → i < length xs → x ≡ get_or xs i x → 0 < length (f x) → 0 < length (flat_map f xs)
 some_in f xs i x l e h =
     let there : 0 < length (f (get_or xs i x)) = subst (λ y. 0 < length (f y)) e h in

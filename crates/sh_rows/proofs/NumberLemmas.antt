@@ -1,13 +1,13 @@
 -- Rising lists of numbers, as sets.
-use Rattle.std.proofs.Common.{◌≡◌, ℕ, zero, suc, ◌<◌, ◌≤◌, Bool, true, false, ◌||◌, ◌&&◌, not, List, [], ◌∷◌, length, get_or, refl, sym, ap, ◌∙◌, arith, ⊎_elim, add-one, take, drop, eqb, eq-eqb, le_refl}
+use Rattle.std.proofs.Common.{◌≡◌, ℕ, zero, suc, ◌<◌, ◌≤◌, Bool, true, false, ◌||◌, ◌&&◌, List, [], ◌∷◌, length, get_or, refl, sym, ap, ◌∙◌, arith, ⊎_elim, add-one, take, drop, eqb, eq-eqb, le_refl}
 use Rattle.std.proofs.Math.Nat.{eq-or-lt_of_le}
 use Rattle.std.specs.List.{list_any, list_all, insert}
 use Rattle.std.specs.List.Sorted.{IsStrictlyIncreasing}
-use Rattle.std.proofs.lemmas.List.Folds.{list_any-append, list_any_at}
+use Rattle.std.proofs.lemmas.List.Folds.{list_any-append}
 use Rattle.std.proofs.lemmas.Map.Views.{any-filter_same}
 use Rattle.std.proofs.lemmas.List.{take-append-drop}
 use Rattle.std.specs.List.{filter}
-use Rattle.std.proofs.lemmas.Bool.{ne_eqb, eqb-true, cases_Bool, and_parts, or_cases, or_left, cases_lt}
+use Rattle.std.proofs.lemmas.Bool.{ne_eqb, eqb-true, cases_Bool, and_parts, or_cases, cases_lt}
 use Rattle.sh_rows.specs.Numbers.{has_number}
 
 pub rising_le : (xs : List ℕ) → IsStrictlyIncreasing xs → (i j : ℕ) → i ≤ j → j < length xs → get_or xs i 0 ≤ get_or xs j 0
@@ -20,9 +20,6 @@ rising_le xs r i (suc j) le lt =
     let step : get_or xs j 0 < get_or xs (suc j) 0 = rw (← add-one j) (r j (omega arith)) in
     omega (arith, before, step))
     (eq-or-lt_of_le le)
-
-pub has_number-at : (xs : List ℕ) (n i : ℕ) → i < length xs → get_or xs i 0 ≡ n → has_number n xs ≡ true
-has_number-at xs n i lt e = list_any_at (λ x. eqb n x) xs i 0 lt (eq-eqb n (get_or xs i 0) (sym e))
 
 pub has_number-none : (n : ℕ) (xs : List ℕ) → ((k : ℕ) → k < length xs → get_or xs k 0 ≡ n → ⊥) → has_number n xs ≡ false
 has_number-none n [] h = refl
@@ -68,21 +65,6 @@ all-from_within (x ∷ xs) ys h =
     or_true true = refl
     or_true false = refl
 
--- in a rising list the number at i occurs nowhere else
-rising_lt : (xs : List ℕ) → IsStrictlyIncreasing xs → (i j : ℕ) → i < j → j < length xs → get_or xs i 0 < get_or xs j 0
-rising_lt xs r i zero lt len = absurd (omega arith)
-rising_lt xs r i (suc j) lt len =
-    let before = rising_le xs r i j (omega arith) (omega arith) in
-    let step : get_or xs j 0 < get_or xs (suc j) 0 = rw (← add-one j) (r j (omega arith)) in
-    omega (arith, before, step)
-
-not_there : (k n : ℕ) (b : Bool) → (eqb k n ≡ true → b ≡ false) → b ≡ (not (eqb k n) && b)
-not_there k n true h = elim (eqb k n) as (λ v. (v ≡ true → true ≡ false) → true ≡ (not v && true)) [ true ↦ λ g. g refl | false ↦ λ _. refl ] h
-not_there k n false h = elim (eqb k n) as (λ v. false ≡ (not v && false)) [ true ↦ refl | false ↦ refl ]
-
-pub has_number-absent : (k n : ℕ) (xs : List ℕ) → has_number n xs ≡ false → has_number k xs ≡ (not (eqb k n) && has_number k xs)
-has_number-absent k n xs none = not_there k n (has_number k xs) (λ e. ap (λ m. has_number m xs) (eqb-true k n e) ∙ none)
-
 -- what is kept of numbers below a count is below it
 pub below-filter : (count : ℕ) (p : ℕ → Bool) (xs : List ℕ) → ((k : ℕ) → has_number k xs ≡ true → k < count)
     → (k : ℕ) → has_number k (filter p xs) ≡ true → k < count
@@ -98,12 +80,6 @@ below-insert count n i xs lt below k there =
     (or_cases (eqb k n) (has_number k xs) (sym (has_number-insert k xs i n) ∙ there))
 
 -- a number that is in the list is not one that would have to be put in
-pub add_changes-nothing : (k n : ℕ) (xs : List ℕ) → has_number n xs ≡ true → has_number k xs ≡ (eqb k n || has_number k xs)
-add_changes-nothing k n xs there =
-    ⊎_elim
-    (λ (e : eqb k n ≡ true). ap (λ m. has_number m xs) (eqb-true k n e) ∙ there ∙ sym (or_left (eqb k n) (has_number k xs) e))
-    (λ (e : eqb k n ≡ false). sym (ap (λ b. b || has_number k xs) e))
-    (cases_Bool (eqb k n))
 
 -- where a number would be, it is not
 pub has_number-would : (n : ℕ) (xs : List ℕ) (i : ℕ) → ((k : ℕ) → k < i → get_or xs k 0 < n) → ((k : ℕ) → i ≤ k → k < length xs → n < get_or xs k 0) → has_number n xs ≡ false

@@ -75,32 +75,6 @@ pub record IsCalled (t : Table) (lists : List (List ℕ)) (ns : List ℕ) : Type
   pub sized : length lists ≡ length t.functions.names
   pub callers : (f : ℕ) → f < length t.functions.names → get_or lists f [] ≡ filter (does_call t f) ns
 
-pub first_called : (t : Table) (lists : List (List ℕ)) (names : List (List ℕ)) → names ≡ t.functions.names → lists ≡ replicate (length names) [] → IsCalled t lists []
-first_called t lists names same none = record {
-  sized = ap length none ∙ length-replicate (length names) [] ∙ ap length same;
-  callers = λ f lt. ap (λ ls. get_or ls f []) none ∙ get_or-replicate (length names) f [] [] (let e = ap length same in omega arith);
-}
-
-pub more_called : (t : Table) (old new : List (List ℕ)) (rows : List declared.Row) (i : ℕ) (row : declared.Row) → i < length rows → row ≡ get_or rows i row
-    → IsCalled t old (map (λ (r : declared.Row). r.number) (take i rows)) → length new ≡ length old
-    → ((f : ℕ) → f < length old → get_or new f [] ≡ get_or old f [] ++ filter (does_call t f) (row.number ∷ []))
-    → IsCalled t new (map (λ (r : declared.Row). r.number) (take (i + 1) rows))
-more_called t old new rows i row lt read before same more =
-    let ns = map (λ (r : declared.Row). r.number) (take i rows) in
-    let next : map (λ (r : declared.Row). r.number) (take (i + 1) rows) ≡ ns ++ row.number ∷ [] =
-    ap (map (λ (r : declared.Row). r.number)) (take_more rows i row lt)
-    ∙ map-append (λ (r : declared.Row). r.number) (take i rows) (get_or rows i row ∷ [])
-    ∙ ap (λ (r : declared.Row). ns ++ r.number ∷ []) (sym read) in
-    let size = before.sized in
-    record {
-      sized = same ∙ before.sized;
-      callers = λ f h.
-          more f (omega arith)
-          ∙ ap (λ xs. xs ++ filter (does_call t f) (row.number ∷ [])) (before.callers f h)
-          ∙ sym (filter-append (does_call t f) ns (row.number ∷ []))
-          ∙ ap (filter (does_call t f)) (sym next);
-    }
-
 -- the numbers of the rows
 pub all_called : (t : Table) (b : List ℕ) (rows : List declared.Row) (f : ℕ) → map (kept.row_in b) rows ≡ t.rows
     → filter (does_call t f) (map (λ (r : declared.Row). r.number) rows) ≡ filter (does_call t f) (map (λ r. r.0) t.rows)

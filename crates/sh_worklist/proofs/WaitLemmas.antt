@@ -52,11 +52,3 @@ added start old new limit was now c xs before more same = record {
     last false = refl
 
 -- the unit of a command waits unless the command waited
-pub unit_waits : (k n limit : ℕ) (before old new : Bool) → before ≡ false → new ≡ (eqb k n && nat_lt n limit) || old → new ≡ ((not before && eqb k n) && nat_lt k limit) || old
-unit_waits k n limit before old new none is =
-    is
-    ∙ ⊎_elim
-    (λ (e : k ≡ n). ap (λ m. (eqb k n && nat_lt m limit) || old) (sym e))
-    (λ (ne : k ≡ n → ⊥). let test = ne_eqb k n ne in rw test refl)
-    (cases_eq k n)
-    ∙ ap (λ b. ((not b && eqb k n) && nat_lt k limit) || old) (sym none)
