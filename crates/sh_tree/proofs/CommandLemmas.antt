@@ -4,7 +4,7 @@ use Rattle.std.specs.List.{flat_map}
 use Rattle.std.specs.Option.{option_map_or}
 use Rattle.std.specs.List.Sorted.{IsPermutation}
 use Rattle.std.proofs.lemmas.List.{append-nil, map-append, drop_more, drop_all}
-use Rattle.std.proofs.lemmas.List.Sorted.{IsPermutation-map}
+use Rattle.std.proofs.lemmas.List.Sorted.{IsPermutation-map, IsPermutation-refl}
 use Rattle.sh_tree.specs.declared.tree.Binary.{Binary}
 use Rattle.sh_tree.specs.declared.tree.Span.{Span}
 use Rattle.sh_tree.specs.declared.tree.Script.{Script, Script', out-Script, Row_of-Item, end_of-Item, more_of-Item, items-the_row-Item}
@@ -320,6 +320,10 @@ pub all_in_order : {E : Type 0} (r : Result (Vec (Bor Command) Global) E) (found
     → IfOk r (λ v. IsPermutation found v.items) → IfOk r (λ v. IsPermutation all (map (λ x. x.now) v.items))
 all_in_order (Ok v) found all e p = subst (λ xs. IsPermutation xs (map (λ (x : Bor Command). x.now) v.items)) e (IsPermutation-map (λ (x : Bor Command). x.now) found v.items p)
 all_in_order (Err x) found all e p = tt
+
+-- a script without an item has none
+pub none_found : (t : Script) (found : List (Bor Command)) → (out-Script t).items ≡ [] → found ≡ [] → IsPermutation (of_script t) (map (λ x. x.now) found)
+none_found t found e n = rw (script_out t, e, n) (IsPermutation-refl [])
 
 pub ruleset operators = (of_operator-Use, of_operator-Remove)
 

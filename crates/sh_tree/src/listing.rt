@@ -1,10 +1,11 @@
 //! The commands of a script, those in its words included.
 #![tactic(auto)]
 
-ghost use Rattle.std.specs.Prelude.{◌≡◌, ◌++◌, [], map, flat_map, OnOk, IfOk};
+ghost use Rattle.std.specs.Prelude.{◌≡◌, ◌<◌, ◌++◌, [], length, map, flat_map, OnOk, OnErr, IfOk};
 ghost use Rattle.std.specs.Option.{option_map_or};
 ghost use Rattle.std.specs.List.Sorted.{IsPermutation, IsNonDecreasingBy};
 ghost use Rattle.sh_tree.specs.declared.tree.Command.{out-Command};
+ghost use Rattle.sh_tree.specs.declared.tree.Script.{out-Script};
 ghost use Rattle.sh_tree.specs.Commands as spec;
 
 use crate::tree::{
@@ -276,12 +277,16 @@ fn in_order(mut found: Vec<&Command>) -> Result<Vec<&Command>, AllocError>
 ///
 /// # Errors
 ///
-/// If a growth was refused.
+/// `AllocError` if a growth was refused, which requires a script with an item.
 pub fn commands(alloc: Global, script: &Script) -> Result<Vec<&Command>, AllocError>
     ensures same { IfOk result (λ found. IsPermutation (spec.commands_of script.now) (map (λ c. c.now) found.items)) }
     ensures ordered { IfOk result (λ found. IsNonDecreasingBy (λ c. (out-Command c.now).number) found.items) }
+    ensures memory { OnErr result (0 < length (out-Script script.now).items) }
 {
     let mut found = Vec::new(alloc);
+    if script.items.is_empty() {
+        return Ok(found);
+    }
     add_script(script, &mut found)?;
     in_order(found)
 }
