@@ -1,5 +1,5 @@
 //! The text of words that hold no expansion.
-ghost use Rattle.std.specs.Prelude.{◌≡◌, ◌++◌, ◌∷◌, [], false, if◌then◌else◌, Some, None, IfOk, OnErr, option_map};
+ghost use Rattle.std.specs.Prelude.{◌≡◌, ◌<◌, ◌++◌, ◌∷◌, [], false, if◌then◌else◌, Some, None, IfOk, OnErr, length, option_map};
 ghost use Rattle.std.specs.List.{list_any};
 ghost use Rattle.std.specs.Str.{bytes_eq};
 ghost use Rattle.sh_tree.specs.standard.Words as words;
@@ -31,14 +31,15 @@ pub fn static_text(alloc: Global, word: &Word, script: &[u8]) -> Result<Option<V
 ///
 /// # Errors
 ///
-/// `AllocError` if a growth was refused.
+/// `AllocError` if a growth was refused, which requires a word with a part.
 #[tactic(auto, using(crate::proofs::TextLemmas::both_texts_none))]
 pub fn unquoted_text(
     alloc: Global,
     word: &Word,
     script: &[u8],
 ) -> Result<Option<Vec<u8>>, AllocError>
-    ensures { IfOk result (λ found. option_map (λ v. v.items) found ≡ words.parts_text script.now word.now.parts) }
+    ensures text { IfOk result (λ found. option_map (λ v. v.items) found ≡ words.parts_text script.now word.now.parts) }
+    ensures memory { OnErr result (0 < length word.now.parts) }
 {
     let mut text = Vec::new(alloc);
     let is_static = push_parts(word.parts.as_slice(), script, &mut text)?;
@@ -48,7 +49,8 @@ pub fn unquoted_text(
 /// Adds the text of the parts, as far as they are static, and says whether they all are.
 #[cycle(text)]
 fn push_parts(parts: &[Part], script: &[u8], text: &mut Vec<u8>) -> Result<bool, AllocError>
-    ensures { IfOk result (λ all. (if all then Some text.new.items else None) ≡ both_texts (Some text.old.items) (words.parts_text script.now parts.now)) }
+    ensures text { IfOk result (λ all. (if all then Some text.new.items else None) ≡ both_texts (Some text.old.items) (words.parts_text script.now parts.now)) }
+    ensures memory { OnErr result (0 < length parts.now) }
 {
     for part in parts {
         let is_static = push_part(part, script, &mut *text)?;
