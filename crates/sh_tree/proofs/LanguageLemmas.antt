@@ -41,7 +41,7 @@ use Rattle.sh_tree.specs.standard.language.Commands.{begins_command, is_bar, lin
 use Rattle.sh_tree.specs.standard.language.Contexts.{in_word, in_unsplit, in_value, in_document_of}
 use Rattle.sh_tree.specs.standard.language.HereDocuments.{Mark}
 use Rattle.sh_tree.specs.standard.language.Trees.{span, word, redirect, here_doc, command, pipe, and_or, script, branch, clause}
-use Rattle.sh_tree.specs.examples.Language.{plain, bare, value, simple, ticked_text, ticked_inner, ticked_part, ticked_script, quoted_text, quoted_words, quoted_script, dollar_text, dollar_value, dollar_script, double_text, double_words, double_script, bare_text, bare_words, bare_script, assigned_text, assigned_parts, assigned_words, assigned_script, passed_text, passed_script, home_text, home_value, home_script, braces_text, braces_elements, braces_script, braced_text, default_part, length_part, removal_part, braced_words, braced_script, parameters_text, parameters_parts, parameters_words, parameters_script, arithmetic_text, product, sum, arithmetic_part, arithmetic_script, choice_text, choice_part, choice_script, substituted_text, inner_script, substituted_part, substituted_script, utility, lone, document_text, document_body, document_words, document_script, stripped_text, stripped_body, stripped_script, branch_text, branch_script, elif_text, elif_branches, elif_script, until_text, until_subshell, until_condition, until_script, every_text, every_command, every_script, loop_text, loop_script, case_text, case_clauses, case_script, through_text, through_clauses, through_script, defined_text, defined_command, defined_list, defined_script, unset_first_text, unset_first_words, unset_first_value, unset_first_script, unset_last_text, unset_last_words, unset_last_script, closed_text, closed_script, separated_text, separated_script, comment_text}
+use Rattle.sh_tree.specs.examples.Language.{plain, bare, value, simple, ticked_text, ticked_inner, ticked_part, ticked_script, quoted_text, quoted_words, quoted_script, dollar_text, dollar_value, dollar_script, double_text, double_words, double_script, bare_text, bare_words, bare_script, assigned_text, assigned_parts, assigned_words, assigned_script, passed_text, passed_script, home_text, home_value, home_script, braces_text, braces_elements, braces_script, braced_text, default_part, length_part, removal_part, braced_words, braced_script, parameters_text, parameters_parts, parameters_words, parameters_script, arithmetic_text, product, sum, arithmetic_part, arithmetic_script, choice_text, choice_part, choice_script, substituted_text, inner_script, substituted_part, substituted_script, utility, lone, document_text, document_body, document_words, document_script, stripped_text, stripped_body, stripped_script, branch_text, branch_script, elif_text, elif_branches, elif_script, until_text, until_subshell, until_condition, until_script, every_text, every_command, every_script, loop_text, loop_script, case_text, case_clauses, case_script, through_text, through_clauses, through_script, defined_text, defined_command, defined_list, defined_script, unset_first_text, unset_first_words, unset_first_value, unset_first_script, unset_last_text, unset_last_words, unset_last_script, closed_text, closed_script, separated_text, separated_script, comment_text, substituted_case_text, case_echo, inner_clauses, inner_case, substituted_case_value, substituted_case_script}
 
 -- what a reading of a known text computes
 unfoldable pub computes : Unit {0}
@@ -316,6 +316,32 @@ ticked_reads =
     r.word_element refl echo (r.word_element refl quotes (r.no_element refl)) in
     let list : ReadsAndOr 1 ticked_text no_bodies (at_token 0 0 0) (at_token 15 2 0) _ = alone_reads (r.simple_command refl elements) refl refl refl in
     whole ticked_text 1 (at_token 15 2 0) ticked_script refl (r.sequence (r.list (r.no_break refl) refl (r.last_item list refl refl))) refl refl
+
+pub substituted_case_reads : Reads substituted_case_text substituted_case_script
+unfolding computes
+substituted_case_reads =
+    let subject : ReadsWord 2 substituted_case_text (in_unsplit 9) (at_word 9 2 2) (at_word 10 2 2) (bare 9 10) = r.whole_word (r.more refl r.plain (r.stop refl)) refl refl in
+    let pattern : ReadsWord 2 substituted_case_text (in_unsplit 14) (at_word 14 2 2) (at_word 15 2 2) (bare 14 15) = r.whole_word (r.more refl r.plain (r.stop refl)) refl refl in
+    let echo : ReadsWord 2 substituted_case_text (in_word 17) (at_word 17 3 2) (at_word 21 3 2) (bare 17 21) = r.whole_word (r.more refl r.plain (r.stop refl)) refl refl in
+    let operand : ReadsWord 2 substituted_case_text (in_word 22) (at_word 22 3 2) (at_word 23 3 2) (bare 22 23) = r.whole_word (r.more refl r.plain (r.stop refl)) refl refl in
+    let inner_elements : ReadsElements 2 substituted_case_text no_bodies First (at_token 17 3 2) (at_token 23 3 2) case_echo =
+    r.word_element refl echo (r.word_element refl operand (r.no_element refl)) in
+    let inner_list : ReadsAndOr 2 substituted_case_text no_bodies (at_token 17 2 2) (at_token 23 3 2) _ = alone_reads (r.simple_command refl inner_elements) refl refl refl in
+    let body : ReadsSequence 2 substituted_case_text no_bodies (at_token 17 2 2) (at_token 23 3 2) (lone (simple 3 17 case_echo)) =
+    r.sequence (r.list (r.no_break refl) refl (r.last_item inner_list refl refl)) in
+    let clauses : ReadsClauses 2 substituted_case_text no_bodies (at_token 14 2 2) (at_token 30 3 2) inner_clauses =
+    r.more_clauses refl (r.last_pattern {s = at_token 14 2 2} refl pattern refl) body refl (r.no_break refl) (r.esac refl) in
+    let compound : ReadsCompound 2 substituted_case_text no_bodies (lead.Reserved reserved.Case) (at_token 4 2 1) (at_token 30 3 1) _ =
+    r.case_of (omega arith) refl subject (r.no_break refl) refl (r.no_break refl) clauses in
+    let inner_command : ReadsCommand 2 substituted_case_text no_bodies (at_token 4 1 1) (at_close 30 3 1) _ = r.compound_command refl compound (r.no_redirect refl) in
+    let inner : ReadsScript 2 substituted_case_text (at_word 4 1 1) (at_word 30 3 1) inner_case =
+    r.script {u = at_close 30 3 1} (r.sequence (r.list (r.no_break refl) refl (r.last_item (alone_reads inner_command refl refl refl) refl refl))) refl in
+    let value : ReadsWord 2 substituted_case_text (in_value 2) (at_word 2 1 0) (at_word 31 3 0) substituted_case_value =
+    r.whole_word (r.more refl (r.substitution (omega arith) refl inner refl) (r.stop refl)) refl refl in
+    let elements : ReadsElements 2 substituted_case_text no_bodies First (at_token 0 1 0) (at_token 31 3 0) (element.Assignment (span 0 1) substituted_case_value ∷ []) =
+    r.assigned_element refl value (r.no_element refl) in
+    let list : ReadsAndOr 2 substituted_case_text no_bodies (at_token 0 0 0) (at_token 31 3 0) _ = alone_reads (r.simple_command refl elements) refl refl refl in
+    whole substituted_case_text 2 (at_token 31 3 0) substituted_case_script refl (r.sequence (r.list (r.no_break refl) refl (r.last_item list refl refl))) refl refl
 
 -- Here-documents
 

@@ -233,6 +233,25 @@ ticked_part = part.Double (span 5 15) (part.Command Backquote (span 6 14) ticked
 abbrev pub ticked_script : Script
 ticked_script = lone (simple 1 0 (element.Word (bare 0 4) ∷ element.Word (word 5 15 (ticked_part ∷ [])) ∷ []))
 
+-- a substitution ends after its commands: the `)` of a pattern does not end it
+abbrev pub substituted_case_text : List ℕ
+substituted_case_text = codes "x=$(case a in a) echo b;; esac)"
+
+abbrev pub case_echo : List Element
+case_echo = element.Word (bare 17 21) ∷ element.Word (bare 22 23) ∷ []
+
+abbrev pub inner_clauses : List Clause
+inner_clauses = clause (bare 14 15 ∷ []) (lone (simple 3 17 case_echo)) Break ∷ []
+
+abbrev pub inner_case : Script
+inner_case = lone (command 2 4 (kind.Branches (bare 9 10) inner_clauses) [])
+
+abbrev pub substituted_case_value : Word
+substituted_case_value = word 2 31 (part.Command Paren (span 2 31) inner_case ∷ [])
+
+abbrev pub substituted_case_script : Script
+substituted_case_script = lone (simple 1 0 (element.Assignment (span 0 1) substituted_case_value ∷ []))
+
 -- a here-document, whose body is at its operator
 abbrev pub document_text : List ℕ
 document_text = codes "cat <<E; b\nx$y\nE\n"
@@ -447,6 +466,7 @@ pub record LanguageRead : Type 0 where
   pub choice : Reads choice_text choice_script
   pub substituted : Reads substituted_text substituted_script
   pub ticked : Reads ticked_text ticked_script
+  pub substituted_case : Reads substituted_case_text substituted_case_script
   pub document : Reads document_text document_script
   pub stripped : Reads stripped_text stripped_script
   pub branches : Reads branch_text branch_script

@@ -1,4 +1,4 @@
-use Rattle.sh_tree.proofs.LanguageLemmas.{quoted_reads, dollar_reads, double_reads, bare_reads, assigned_reads, passed_reads, home_reads, braces_reads, braced_reads, parameters_reads, arithmetic_reads, choice_reads, substituted_reads, ticked_reads, document_reads, stripped_reads, branch_reads, elif_reads, until_reads, every_reads, loop_reads, case_reads, through_reads, defined_reads, unset_first_reads, unset_last_reads, closed_reads, separated_reads, empty_reads, comment_reads}
+use Rattle.sh_tree.proofs.LanguageLemmas.{quoted_reads, dollar_reads, double_reads, bare_reads, assigned_reads, passed_reads, home_reads, braces_reads, braced_reads, parameters_reads, arithmetic_reads, choice_reads, substituted_reads, ticked_reads, substituted_case_reads, document_reads, stripped_reads, branch_reads, elif_reads, until_reads, every_reads, loop_reads, case_reads, through_reads, defined_reads, unset_first_reads, unset_last_reads, closed_reads, separated_reads, empty_reads, comment_reads}
 use Rattle.sh_tree.proofs.UnreadLemmas.{open_quote_unread, open_braced_unread, split_name_unread, no_expression_unread, lone_bar_unread, split_operator_unread, clause_end_unread, open_document_unread, split_document_unread, tabbed_document_unread, unclosed_unread}
 use Rattle.sh_tree.proofs.WordReadings.{removed_prefix_reads, octal_reads, status_reads, quoted_default_reads, all_fields_reads, exported_reads, colon_in_double_reads, colon_in_arithmetic_reads, colon_in_pattern_reads}
 use Rattle.sh_tree.proofs.CommandReadings.{while_reads, for_ended_reads, for_none_reads, for_two_reads, case_lines_reads, patterns_reads, pattern_esac_reads, redirected_reads, numbered_reads, behind_assignment_reads}
@@ -23,6 +23,7 @@ returns-clause-texts c = record {
   choice = choice_reads;
   substituted = substituted_reads;
   ticked = ticked_reads;
+  substituted_case = substituted_case_reads;
   document = document_reads;
   stripped = stripped_reads;
   branches = branch_reads;
