@@ -174,6 +174,15 @@ no_part (Some r) p h = go r.parent h
     go None k = refl
     go (Some q) k = ne_eqb q p (k q refl)
 
+-- a process that is the parent of no live process waits for nobody
+pub nobody_waited : (w : World) (p : ℕ) → ((q : ℕ) (r : Process) → w.processes q ≡ Some r → r.parent ≡ Some p → ⊥) → waits w p ≡ false
+unfolding waits parent_of
+nobody_waited w p h = none_below w.next_process _ (λ k. no_part (w.processes k) p (λ q e d. go k (w.processes k) refl (e ∙ ap Some d)))
+  where
+    go : (k : ℕ) (o : Option Process) → w.processes k ≡ o → parent_of o ≡ Some p → ⊥
+    go k None s e = none-some p e
+    go k (Some r) s e = h k r s e
+
 -- the process with the greatest number is nobody's parent
 greatest_awake : (w : World) (n : ℕ) → Ordered w → ((p : ℕ) → is_some (w.processes p) ≡ true → p < suc n) → waits w n ≡ false
 unfolding waits

@@ -8,7 +8,7 @@ use Rattle.sh_runs.specs.standard.runs.Answers.{Answer, Given, Directory}
 use Rattle.sh_runs.specs.standard.runs.States.{State, fresh}
 use Rattle.sh_runs.specs.standard.runs.Expansion.{Quoted, Unquoted, Piece, Bytes, Outcome, in_fields, expand}
 use Rattle.sh_runs.specs.standard.runs.Fields.{fields, splits}
-use Rattle.sh_runs.specs.standard.runs.Worlds.{World, Move, run, step, start_world}
+use Rattle.sh_runs.specs.standard.runs.Worlds.{Process, World, Move, run, step, start_world}
 use Rattle.sh_runs.specs.Counts.{count_of, least_fields}
 use Rattle.sh_runs.specs.Quoting.{are_whole, word_begins_pattern, word_mentions, is_about_separators, is_ifs, is_steady}
 
@@ -19,6 +19,14 @@ abbrev pub RunsGoOn : Type 0
 RunsGoOn =
     (t : Items) (e : Environment) (f : Frame) (moves : List Move) (w : World) → run moves (start_world e f t) ≡ Some w → w.over ≡ false
     → (p : ℕ) → is_some (w.processes p) ≡ true → (q : ℕ) × ((a : Answer) → is_some (step w (record { process = q; answer = a })) ≡ true)
+
+-- If arithmetic has not ended the run, each live process that nobody alive has as its parent has a
+-- step, whatever the answer is.
+abbrev pub AwakeGoOn : Type 0
+AwakeGoOn =
+    (t : Items) (e : Environment) (f : Frame) (moves : List Move) (w : World) → run moves (start_world e f t) ≡ Some w → w.over ≡ false
+    → (p : ℕ) → is_some (w.processes p) ≡ true → ((q : ℕ) (r : Process) → w.processes q ≡ Some r → r.parent ≡ Some p → ⊥)
+    → (a : Answer) → is_some (step w (record { process = p; answer = a })) ≡ true
 
 -- what an expansion outside quotes gives, taken as quoted
 unfoldable pub as_quoted : Piece → Piece

@@ -3,7 +3,7 @@
 ghost use Rattle.sh_runs.specs.examples.Profile.{ProfileAsExpected};
 ghost use Rattle.sh_runs.specs.Admitted.{AdmittedAsListed};
 ghost use Rattle.sh_runs.specs.Rows.{RowsAreThere};
-ghost use Rattle.sh_runs.specs.Theorem.{RunsGoOn, FieldsStandWhole, FieldsStandSteady, OperandsCount};
+ghost use Rattle.sh_runs.specs.Theorem.{RunsGoOn, AwakeGoOn, FieldsStandWhole, FieldsStandSteady, OperandsCount};
 ghost use Rattle.sh_runs.specs.examples.Events.{EventsExist};
 ghost use Rattle.sh_runs.specs.examples.Runs.{RunsAsExpected};
 ghost use Rattle.sh_runs.specs.examples.Forms.{FormsAsExpected};
@@ -11,10 +11,11 @@ ghost use Rattle.sh_runs.specs.examples.Fields.{FieldsAsExpected};
 ghost use Rattle.sh_runs.specs.examples.Steps.{StepsAsExpected};
 ghost use Rattle.sh_runs.specs.examples.Rows.{RowsAsExpected};
 
-/// Runs do not get stuck: if a process lives and arithmetic has not ended the run, some process has
-/// a step.
+/// Runs do not get stuck. If a process lives and arithmetic has not ended the run, some process has
+/// a step. Each live process that waits for nobody has one.
 pub fn goes_on()
-    ensures { RunsGoOn }
+    ensures some { RunsGoOn }
+    ensures each { AwakeGoOn }
 {}
 
 /// The fields of a word without a Split event are those without splitting. They depend on IFS and
