@@ -1,9 +1,12 @@
 -- Static texts, one part after another.
-use Rattle.std.proofs.Common.{◌≡◌, ℕ, ◌+◌, ◌-◌, ◌<◌, ◌≤◌, ◌⊎◌, inl, inr, Option, Some, None, List, [], ◌∷◌, ◌++◌, length, get_or, take, drop, refl, ap, ◌∙◌, add-one, drop-cons, append_assoc, length-drop, take_all, arith}
+use Rattle.std.proofs.Common.{◌≡◌, ◌≢◌, ℕ, zero, suc, ◌==◌, Bool, true, false, if◌then◌else◌, ◌+◌, ◌-◌, ◌<◌, ◌≤◌, ◌⊎◌, inl, inr, Option, Some, None, List, [], ◌∷◌, ◌++◌, length, get_or, take, drop, refl, ap, ◌∙◌, add-one, drop-cons, append_assoc, length-drop, take_all, arith}
 use Rattle.std.proofs.lemmas.Bool.{ne_eqb}
-use Rattle.std.proofs.lemmas.List.{drop_all, append-nil}
+use Rattle.std.proofs.lemmas.Option.{none-some}
+use Rattle.std.proofs.lemmas.List.{drop_all, append-nil, length-take-le}
 use Rattle.sh_tree.specs.declared.tree.Part.{Part}
-use Rattle.sh_tree.specs.standard.Words.{both_texts, part_text, parts_text, escape_of, escaped}
+use Rattle.sh_tree.specs.declared.tree.SingleStyle.{SingleStyle}
+use Rattle.sh_tree.specs.declared.tree.SingleStyle.TheVariants as single
+use Rattle.sh_tree.specs.standard.Words.{both_texts, part_text, parts_text, escape_of, escaped, behind_first, between_ends, single_text}
 
 -- a text that is not static makes the whole not static
 pub both_texts_none : (t : List ℕ) (x : Option (List ℕ)) → None ≡ both_texts (Some t) x → None ≡ x
@@ -33,6 +36,25 @@ pub text_stop : (b : List ℕ) (ps : List Part) (i : ℕ) (t : List ℕ) → len
 unfolding parts_text
 text_stop b ps i t h = rw (drop_all i ps h, append-nil) refl
 
+-- Texts that are not empty
+
+pub some_text : (x : Option (List ℕ)) (t : List ℕ) → x ≡ Some t → 0 < length t → x ≢ Some []
+some_text x [] e h d = absurd (omega arith)
+some_text x (c ∷ t) e h d = cc
+
+both_empty : (x y : Option (List ℕ)) → both_texts x y ≡ Some [] → (x ≡ Some []) × (y ≡ Some [])
+both_empty None y e = absurd (none-some [] e)
+both_empty (Some t) None e = absurd (none-some [] e)
+both_empty (Some []) (Some u) e = (refl, e)
+both_empty (Some (c ∷ t)) (Some u) e = cc
+
+-- a part whose text is not empty makes the whole one not empty
+pub text_some : (b : List ℕ) (ps : List Part) (i : ℕ) (x : Part) → i < length ps → x ≡ get_or ps i x → part_text b x ≢ Some [] → parts_text b ps ≢ Some []
+unfolding parts_text
+text_some b [] i x h e n w = absurd (omega arith)
+text_some b (y ∷ ps) zero x h e n w = n (ap (part_text b) e ∙ (both_empty (part_text b y) (parts_text b ps) w).0)
+text_some b (y ∷ ps) (suc i) x h e n w = text_some b ps i x (omega arith) e n (both_empty (part_text b y) (parts_text b ps) w).1
+
 -- The bytes between `$'` and `'`
 
 -- what the slice after the first byte holds
@@ -41,6 +63,13 @@ behind cs = take (length cs - 1) (drop 1 cs)
 
 behind_is : (cs : List ℕ) → behind cs ≡ drop 1 cs
 behind_is cs = take_all (length cs - 1) (drop 1 cs) (omega (arith, length-drop 1 cs))
+
+-- no more is left
+pub shorter : (cs : List ℕ) (n : ℕ) → length cs ≤ n → length (behind cs) ≤ n
+shorter cs n h = omega (arith, ap length (behind_is cs), length-drop 1 cs)
+
+pub twice_shorter : (cs : List ℕ) (n : ℕ) → length cs ≤ n → length (behind (behind cs)) ≤ n
+twice_shorter cs n h = shorter (behind cs) n (shorter cs n h)
 
 -- a byte is put, and it is the first of what is left
 one_more : (old new cs : List ℕ) (e : ℕ) (rest : List ℕ) → new ≡ old ++ (e ∷ []) → escaped cs ≡ e ∷ escaped rest → new ++ escaped rest ≡ old ++ escaped cs
@@ -72,3 +101,21 @@ pub escaped_all : (old cs : List ℕ) → length cs < 1 → old ++ escaped cs �
 unfolding escaped
 escaped_all old [] h = append-nil old
 escaped_all old (c ∷ cs) h = absurd (omega arith)
+
+escaped_some : (cs : List ℕ) → 0 < length cs → 0 < length (escaped cs)
+unfolding escaped
+escaped_some [] h = absurd (omega arith)
+escaped_some (c ∷ []) h = h
+escaped_some (c ∷ d ∷ cs) h = go (c == 92)
+  where
+    go : (t : Bool) → 0 < length (if t then escape_of d ∷ escaped cs else c ∷ escaped (d ∷ cs))
+    go true = omega arith
+    go false = omega arith
+
+length_ends : (t : List ℕ) → length (between_ends t) ≡ length t - 2
+length_ends t = length-take-le (length t - 2) (drop 1 t) (omega (arith, length-drop 1 t))
+
+-- what `$'` and a quote hold is not empty, so the text is not, whatever the first byte is
+pub single_some : (style : SingleStyle) (t u : List ℕ) → u ≡ between_ends (behind_first t) → 0 < length u → 0 < length (single_text style t)
+single_some single.Plain t u e h = omega (arith, ap length e, length_ends (behind_first t), length_ends t, length-drop 1 t)
+single_some single.Dollar t u e h = escaped_some (between_ends (behind_first t)) (omega (arith, ap length e))

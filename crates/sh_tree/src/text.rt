@@ -1,5 +1,5 @@
 //! The text of words that hold no expansion.
-ghost use Rattle.std.specs.Prelude.{◌≡◌, ◌<◌, ◌++◌, ◌∷◌, [], false, if◌then◌else◌, Some, None, IfOk, OnErr, length, option_map};
+ghost use Rattle.std.specs.Prelude.{◌≡◌, ◌≢◌, ◌<◌, ◌++◌, ◌∷◌, [], false, if◌then◌else◌, Some, None, IfOk, OnErr, length, option_map};
 ghost use Rattle.std.specs.List.{list_any};
 ghost use Rattle.std.specs.Str.{bytes_eq};
 ghost use Rattle.sh_tree.specs.standard.Words as words;
@@ -31,7 +31,7 @@ pub fn static_text(alloc: Global, word: &Word, script: &[u8]) -> Result<Option<V
 ///
 /// # Errors
 ///
-/// `AllocError` if a growth was refused, which requires a word with a part.
+/// `AllocError` if a growth was refused, but not for a word whose text is empty.
 #[tactic(auto, using(crate::proofs::TextLemmas::both_texts_none))]
 pub fn unquoted_text(
     alloc: Global,
@@ -39,7 +39,7 @@ pub fn unquoted_text(
     script: &[u8],
 ) -> Result<Option<Vec<u8>>, AllocError>
     ensures text { IfOk result (λ found. option_map (λ v. v.items) found ≡ words.parts_text script.now word.now.parts) }
-    ensures memory { OnErr result (0 < length word.now.parts) }
+    ensures memory { OnErr result (words.parts_text script.now word.now.parts ≢ Some []) }
 {
     let mut text = Vec::new(alloc);
     let is_static = push_parts(word.parts.as_slice(), script, &mut text)?;
@@ -50,7 +50,7 @@ pub fn unquoted_text(
 #[cycle(text)]
 fn push_parts(parts: &[Part], script: &[u8], text: &mut Vec<u8>) -> Result<bool, AllocError>
     ensures text { IfOk result (λ all. (if all then Some text.new.items else None) ≡ both_texts (Some text.old.items) (words.parts_text script.now parts.now)) }
-    ensures memory { OnErr result (0 < length parts.now) }
+    ensures memory { OnErr result (words.parts_text script.now parts.now ≢ Some []) }
 {
     for part in parts {
         let is_static = push_part(part, script, &mut *text)?;
@@ -65,7 +65,8 @@ fn push_parts(parts: &[Part], script: &[u8], text: &mut Vec<u8>) -> Result<bool,
 #[cycle(text)]
 #[tactic(auto, unfolding(crate::specs::standard::Words::part_text))]
 fn push_part(part: &Part, script: &[u8], text: &mut Vec<u8>) -> Result<bool, AllocError>
-    ensures { IfOk result (λ all. (if all then Some text.new.items else None) ≡ both_texts (Some text.old.items) (words.part_text script.now part.now)) }
+    ensures text { IfOk result (λ all. (if all then Some text.new.items else None) ≡ both_texts (Some text.old.items) (words.part_text script.now part.now)) }
+    ensures memory { OnErr result (words.part_text script.now part.now ≢ Some []) }
 {
     match part {
         Part::Plain(span) => {
@@ -92,7 +93,8 @@ fn push_part(part: &Part, script: &[u8], text: &mut Vec<u8>) -> Result<bool, All
 
 /// Adds what is between `$'` and `'`, with one byte for each escape.
 fn push_escaped(inner: &[u8], text: &mut Vec<u8>) -> Result<(), AllocError>
-    ensures { IfOk result (λ done. text.new.items ≡ text.old.items ++ words.escaped inner.now) }
+    ensures text { IfOk result (λ done. text.new.items ≡ text.old.items ++ words.escaped inner.now) }
+    ensures memory { OnErr result (0 < length inner.now) }
 {
     let mut rest = inner;
     while let [first, behind @ ..] = rest {
