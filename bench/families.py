@@ -481,6 +481,8 @@ LINED = {
     "functions in groups": of(each("fN() { " + "{ " * 20 + "fK" + "; }" * 20 + "; }\n"), "f0\n"),
     "calls in substitutions": of(each("fN() { x=$(fK); }\n"), "f0\n"),
     "calls in pipelines": of(each("fN() { fK | a; }\n"), "f0\n"),
+    "calls in pipelines after names": of(each("vN=\n"), "f() { :; }\n", each("f|a;"), "\n"),
+    "calls in pipelines that lose one": of(each("vN=\n"), "f() { unset v0; }\n", each("f|a;"), "\n"),
     "calls in conditions": of(each("fN() { if fK; then vN=; fi; }\n", MOST_NAMES // 2), "f0\n"),
     "functions in one another": of(each("fN() { gN() { fK; }; gN; }\n", MOST_NAMES // 2), "f0\n"),
     "functions taken back": of(each("fN() { unset -f fK; a && fK; }\n"), "f0\n"),

@@ -1,5 +1,5 @@
 -- The names of two rows, each once: those of the first, and those of the second that are not in the
--- first.
+-- first. And sets of numbers that are such rows.
 use Rattle.std.proofs.Common.{◌≡◌, ℕ, zero, suc, ◌+◌, ◌<◌, Bool, true, false, not, ◌&&◌, ◌||◌, cond, if◌then◌else◌, List, [], ◌∷◌, ◌++◌, append_assoc, append-nil, filter, fold, get_or, length, map, slice_get, Some, refl, sym, subst, ap, ap₂, ◌∙◌, arith, true≢false}
 use Rattle.std.specs.Cmp.{IsStrictWeakOrder}
 use Rattle.std.specs.List.{All, list_all}
@@ -13,13 +13,14 @@ use Rattle.std.proofs.lemmas.List.Sorted.{ranks_by}
 use Rattle.std.proofs.lemmas.List.Sums.{fold-append}
 use Rattle.std.proofs.lemmas.Option.{same_Some, slice_get-get_or}
 use Rattle.std.proofs.lemmas.Slice.Eq.{bytes_eq-Decides}
+use Rattle.sh_tree.specs.declared.limits.TheConstants.{MAX_NAMES}
 use Rattle.sh_tree.specs.declared.place.Place.{Place}
 use Rattle.sh_tree.specs.standard.program.Syntax.{Text}
 use Rattle.sh_runs.specs.standard.runs.Environment.{is_one_of}
 use Rattle.sh_domain.specs.declared.rows.RowId.{RowId}
 use Rattle.sh_domain.specs.Certificates.{in_byte_order, names_at}
 use Rattle.sh_domain.specs.Demands.{drop_at, with_text}
-use Rattle.sh_domain.specs.KeptRows.{KeptRows}
+use Rattle.sh_domain.specs.KeptRows.{KeptRows, holds_at}
 use Rattle.sh_domain.specs.Knowledge.{AreNumbered, at_number}
 use Rattle.sh_domain.specs.Names.{are_distinct}
 use Rattle.sh_domain.specs.Numbered.{pair_in}
@@ -27,8 +28,15 @@ use Rattle.sh_domain.specs.Sheets.{precedes}
 use Rattle.sh_domain.proofs.KnowledgeLemmas.{in_row}
 use Rattle.sh_domain.proofs.RowReadLemmas.{rises, names_of, order_rises}
 use Rattle.sh_demands.specs.Drops.{all_told}
-use Rattle.sh_demands.specs.DropWalks.{drop_if, plain_step, is_in, is_only_in}
+use Rattle.sh_demands.specs.DropWalks.{drop_if, plain_step}
 use Rattle.sh_demands.proofs.OnceLemmas.{all_once}
+
+-- the number is in a row; in one and not in another
+abbrev pub is_in : KeptRows → RowId → ℕ → Bool
+is_in rows id n = holds_at rows.rows id.index n
+
+abbrev pub is_only_in : KeptRows → (id other : RowId) → ℕ → Bool
+is_only_in rows id other n = is_in rows id n && not (is_in rows other n)
 
 -- Names that rise are distinct
 
@@ -201,7 +209,7 @@ but_row names h rows x y (k ∷ ks) a =
     go true c true e f r = rw (f ∙ e) r
     go true c false e f r = rw (f ∙ e) (ap (λ ts. get_or names k [] ∷ ts) r)
 
-pub rows_once : (names : List Text) → AreNumbered names → (rows : KeptRows) (x y : RowId) (ks : List ℕ) → map (pair_in names) ks ≡ in_byte_order names → All (λ n. n < length names) ks
+rows_once : (names : List Text) → AreNumbered names → (rows : KeptRows) (x y : RowId) (ks : List ℕ) → map (pair_in names) ks ≡ in_byte_order names → All (λ n. n < length names) ks
     → (at : ℕ) (ps : List Place) → fold (plain_step names (is_only_in rows y x) at) (fold (plain_step names (is_in rows x) at) ps ks) ks
     ≡ all_told (length ps) at ps (names_at (in_byte_order names) rows x ++ names_at (in_byte_order names) rows y)
 rows_once names h rows x y ks e a at ps =
@@ -217,3 +225,55 @@ rows_once names h rows x y ks e a at ps =
     ∙ ap (λ (ts : List Text). ps ++ map (drop_at at) ts)
     (sym (both_once held other (distinct_row (λ p. is_in rows x p.0) (in_byte_order names) rising) (distinct_row (λ p. is_in rows y p.0) (in_byte_order names) rising)))
     ∙ sym (all_once at ps (held ++ other))
+
+-- Sets of numbers
+
+-- a set each of whose numbers is in one that has none
+pub none_within : (f g : ℕ → Bool) → ((k : ℕ) → g k ≡ false) → ((k : ℕ) → f k ≡ true → g k ≡ true) → (k : ℕ) → f k ≡ false
+none_within f g none within k = go (f k) refl
+  where
+    go : (b : Bool) → f k ≡ b → f k ≡ false
+    go true e = absurd (true≢false (sym (within k e) ∙ none k))
+    go false e = e
+
+pub none_told : (names : List Text) (f : ℕ → Bool) (at : ℕ) → ((k : ℕ) → f k ≡ false) → (ps : List Place) (ks : List ℕ) → fold (plain_step names f at) ps ks ≡ ps
+unfolding drop_if
+none_told names f at none ps [] = refl
+none_told names f at none ps (k ∷ ks) =
+    ap (λ (b : Bool). fold (plain_step names f at) (ps ++ drop_if b at (slice_get names k)) ks) (none k)
+    ∙ ap (λ (qs : List Place). fold (plain_step names f at) qs ks) (append-nil ps)
+    ∙ none_told names f at none ps ks
+
+same_told : (names : List Text) (f g : ℕ → Bool) (at : ℕ) → ((k : ℕ) → k < length names → f k ≡ g k) → (ks : List ℕ) → All (λ n. n < length names) ks → (ps : List Place)
+    → fold (plain_step names f at) ps ks ≡ fold (plain_step names g at) ps ks
+same_told names f g at same [] a ps = refl
+same_told names f g at same (k ∷ ks) a ps =
+    ap (λ (b : Bool). fold (plain_step names f at) (ps ++ drop_if b at (slice_get names k)) ks) (same k (All-head (λ n. n < length names) k ks a))
+    ∙ same_told names f g at same ks (All-tail (λ n. n < length names) k ks a) (plain_step names g at ps k)
+
+or_nothing : (a b : Bool) → b ≡ false → (a || b) ≡ a
+or_nothing true b h = refl
+or_nothing false b h = h
+
+only_in : (a b c d : Bool) → a ≡ d → b ≡ c → (not a && b) ≡ (c && not d)
+only_in true true c d e f = rw (sym e, sym f) refl
+only_in true false c d e f = rw (sym e, sym f) refl
+only_in false true c d e f = rw (sym e, sym f) refl
+only_in false false c d e f = rw (sym e, sym f) refl
+
+-- the set of a row, and the set of another without the numbers of the first
+pub sets_once : (names : List Text) → AreNumbered names → (rows : KeptRows) (x y : RowId) (first_none first other_none other last : ℕ → Bool)
+    → ((k : ℕ) → first_none k ≡ false) → ((k : ℕ) → k < MAX_NAMES → first k ≡ (is_in rows x k || first_none k))
+    → ((k : ℕ) → other_none k ≡ false) → ((k : ℕ) → k < MAX_NAMES → other k ≡ (is_in rows y k || other_none k))
+    → ((k : ℕ) → last k ≡ (not (first k) && other k))
+    → (ks : List ℕ) → map (pair_in names) ks ≡ in_byte_order names → All (λ n. n < length names) ks
+    → (at : ℕ) (ps : List Place) → fold (plain_step names last at) (fold (plain_step names first at) ps ks) ks
+    ≡ all_told (length ps) at ps (names_at (in_byte_order names) rows x ++ names_at (in_byte_order names) rows y)
+sets_once names h rows x y first_none first other_none other last n r o s l ks e a at ps =
+    let first_same : (k : ℕ) → k < length names → first k ≡ is_in rows x k = λ k b. r k (omega (arith, h.few, b)) ∙ or_nothing (is_in rows x k) (first_none k) (n k) in
+    let other_same : (k : ℕ) → k < length names → other k ≡ is_in rows y k = λ k b. s k (omega (arith, h.few, b)) ∙ or_nothing (is_in rows y k) (other_none k) (o k) in
+    let last_same : (k : ℕ) → k < length names → last k ≡ is_only_in rows y x k =
+    λ k b. l k ∙ only_in (first k) (other k) (is_in rows y k) (is_in rows x k) (first_same k b) (other_same k b) in
+    same_told names last (is_only_in rows y x) at last_same ks a (fold (plain_step names first at) ps ks)
+    ∙ ap (λ (qs : List Place). fold (plain_step names (is_only_in rows y x) at) qs ks) (same_told names first (is_in rows x) at first_same ks a ps)
+    ∙ rows_once names h rows x y ks e a at ps

@@ -1,7 +1,7 @@
 -- Clauses of private functions: the places of names that a command may drop, by the pieces that
 -- name them.
 -- POSIX.1-2024, XCU 2.9.1 (simple commands), 2.15 (unset).
-use Rattle.std.specs.Prelude.{ℕ, Bool, true, false, not, ◌&&◌, if◌then◌else◌, List, [], ◌∷◌, ◌++◌, fold, Option, Some, None, slice_get}
+use Rattle.std.specs.Prelude.{ℕ, Bool, true, false, ◌&&◌, if◌then◌else◌, List, [], ◌∷◌, ◌++◌, fold, Option, Some, None, slice_get}
 use Rattle.sh_tree.specs.declared.place.Place.{Place}
 use Rattle.sh_tree.specs.declared.tree.Element.{Element}
 use Rattle.sh_tree.specs.declared.tree.Kind.{Kind}
@@ -14,10 +14,8 @@ use Rattle.sh_runs.specs.Profile.{Static}
 use Rattle.sh_table.specs.WordTexts.{text_in}
 use Rattle.sh_table.specs.declared.word_text.WordText.{WordText}
 use Rattle.sh_runs.specs.standard.runs.Environment.{is_one_of}
-use Rattle.sh_domain.specs.declared.rows.RowId.{RowId}
 use Rattle.sh_domain.specs.Demands.{drop_at, is_reached}
 use Rattle.sh_domain.specs.Facts.{Facts, claims, Variable}
-use Rattle.sh_domain.specs.KeptRows.{KeptRows, holds_at}
 use Rattle.sh_demands.specs.Drops.{once_told, all_told, unseen}
 use Rattle.sh_demands.specs.Places.{Source, known_before, sharing, reached_sharing, shared}
 
@@ -56,13 +54,6 @@ drop_if false at o = []
 
 abbrev pub plain_step : List Text → (ℕ → Bool) → (at : ℕ) → List Place → ℕ → List Place
 plain_step names is_wanted at ps n = ps ++ drop_if (is_wanted n) at (slice_get names n)
-
--- in a row; in one and not in another
-abbrev pub is_in : KeptRows → RowId → ℕ → Bool
-is_in rows id n = holds_at rows.rows id.index n
-
-abbrev pub is_only_in : KeptRows → (id other : RowId) → ℕ → Bool
-is_only_in rows id other n = is_in rows id n && not (is_in rows other n)
 
 -- the name of a prefix assignment
 unfoldable pub unseen_told : Facts → (k at : ℕ) → List Place → Text → List Place

@@ -1,13 +1,15 @@
 //! The names that a command may drop: each is reported once, at the start of the command
 //! (XCU 2.9.1, 2.15).
-ghost use Rattle.std.specs.Prelude.{◌≡◌, ◌++◌, ◌<◌, ◌&&◌, fold, length, map, slice_get};
+ghost use Rattle.std.specs.Prelude.{◌≡◌, ◌++◌, ◌<◌, ◌≤◌, ◌&&◌, fold, length, map, slice_get};
 ghost use Rattle.std.specs.List.{All};
+ghost use Rattle.sh_tree.specs.declared.limits.TheConstants.{MAX_NAMES};
 ghost use Rattle.sh_tree.specs.standard.language.Bytes as bytes;
 ghost use Rattle.sh_tree.specs.Lists.{elements_from};
 ghost use Rattle.sh_table.specs.WordTexts.{text_in};
 ghost use Rattle.sh_runs.specs.standard.runs.Environment.{is_one_of};
 ghost use Rattle.sh_domain.specs.Certificates as claims;
 ghost use Rattle.sh_domain.specs.Knowledge.{AreNumbered};
+ghost use Rattle.sh_domain.specs.NumberSets.{numbers_of};
 ghost use Rattle.sh_demands.specs.Drops as spec;
 ghost use Rattle.sh_demands.specs.DropWalks as walks;
 ghost use Rattle.sh_gains.specs.Knowing.{knowing};
@@ -15,7 +17,7 @@ ghost use Rattle.sh_gains.specs.Statics.{listed};
 ghost use Rattle.sh_demands.specs.Reported.{Adds, AddsFirst, AddsSince};
 
 use crate::reports::Reports;
-use sh_domain::{Drops, Names, RowId, Rows};
+use sh_domain::{Drops, Names, NumberSet, Rows};
 use sh_gains::Known;
 use sh_operands::unset_operands;
 use sh_table::{CallTable, WordText};
@@ -42,30 +44,17 @@ fn tell_number(number: u32, is_wanted: bool, names: &Names, at: u32, reports: &m
     }
 }
 
-fn tell_row(numbers: &[u32], names: &Names, rows: &Rows, id: RowId, at: u32, reports: &mut Reports)
-    requires { All (λ number. number < length names.now) numbers.now }
-    ensures { Adds reports.old reports.new (λ ps. fold (walks.plain_step names.now (walks.is_in rows.now id) at) ps numbers.now) }
+// The names of a set. If it has no numbers, none is gone over.
+fn tell_set(numbers: &[u32], names: &Names, set: &NumberSet, at: u32, reports: &mut Reports)
+    requires few { length names.now ≤ MAX_NAMES }
+    requires below { All (λ number. number < length names.now) numbers.now }
+    ensures { Adds reports.old reports.new (λ ps. fold (walks.plain_step names.now (numbers_of set.now) at) ps numbers.now) }
 {
-    for number in numbers {
-        tell_number(*number, rows.has(id, *number), names, at, reports);
+    if set.is_within(&NumberSet::new()) {
+        return;
     }
-}
-
-fn tell_other_row(
-    numbers: &[u32],
-    names: &Names,
-    rows: &Rows,
-    id: RowId,
-    other: RowId,
-    at: u32,
-    reports: &mut Reports,
-)
-    requires { All (λ number. number < length names.now) numbers.now }
-    ensures { Adds reports.old reports.new (λ ps. fold (walks.plain_step names.now (walks.is_only_in rows.now id other) at) ps numbers.now) }
-{
     for number in numbers {
-        let is_new = rows.has(id, *number) && !rows.has(other, *number);
-        tell_number(*number, is_new, names, at, reports);
+        tell_number(*number, set.has(*number), names, at, reports);
     }
 }
 
@@ -83,16 +72,13 @@ pub fn tell_dropped(
     ensures { AddsFirst start reports.old reports.new (λ ps. spec.all_told (length ps) at ps (claims.names_at (claims.in_byte_order names.now) rows.now drops.vars ++ claims.names_at (claims.in_byte_order names.now) rows.now drops.functions)) }
 {
     let numbers = names.in_byte_order();
-    tell_row(numbers, names, rows, drops.vars, at, reports);
-    tell_other_row(
-        numbers,
-        names,
-        rows,
-        drops.functions,
-        drops.vars,
-        at,
-        reports,
-    )
+    let mut vars = NumberSet::new();
+    vars.join_row(rows, drops.vars);
+    let mut functions = NumberSet::new();
+    functions.join_row(rows, drops.functions);
+    functions.remove(&vars);
+    tell_set(numbers, names, &vars, at, reports);
+    tell_set(numbers, names, &functions, at, reports)
 }
 
 // `unset`
