@@ -121,56 +121,47 @@ impl Assured {
         self.args = self.args.min(other.args);
     }
 
-    // What a function leaves that was surely called: what it does not drop, and what is claimed of
-    // its return. It is without the prefix names that were not set before.
-    fn after_return(&self, rows: &Rows, returned: &Return, prefixes: &NumberSet) -> Knowledge
-        ensures { (names before : List Text) → AreNumbered names
+    // Becomes what a function leaves that was surely called: what it does not drop, and what is
+    // claimed of its return. It is without the prefix names that were not set before.
+    fn pass_return(
+        &mut self,
+        rows: &Rows,
+        drops: &Drops,
+        vars: RowId,
+        functions: RowId,
+        prefixes: &NumberSet,
+    )
+        ensures { (names before : List Text) (args : ℕ) → AreNumbered names
             → ((t : Text) → is_one_of names t ≡ true → contains names prefixes.now t ≡ is_one_of before t)
-            → knowledge_facts names result
-            ≡ views.returned (drops_of (in_byte_order names) rows.now returned.now.drops) before
-            (spec.facts (claim_of (in_byte_order names) rows.now returned.now.facts))
-            (contains names self.now.vars) (contains names self.now.functions) self.now.args }
+            → assured_facts names self.new
+            ≡ views.returned (drops_of (in_byte_order names) rows.now drops.now) before
+            (spec.facts (claim_of (in_byte_order names) rows.now (fact.Known vars functions args)))
+            (contains names self.old.vars) (contains names self.old.functions) self.old.args }
     {
-        match returned.facts {
-            Facts::NotReached => Knowledge::NotReached,
-            Facts::Known {
-                vars,
-                functions,
-                ..
-            } => {
-                let mut lost = *prefixes;
-                lost.remove(&self.vars);
-                let mut left = *self;
-                left.vars.remove_row(rows, returned.drops.vars);
-                left.vars.join_row(rows, vars);
-                left.vars.remove(&lost);
-                left.functions.remove_row(rows, returned.drops.functions);
-                left.functions.join_row(rows, functions);
-                Knowledge::Known(left)
-            }
-        }
+        let mut lost = *prefixes;
+        lost.remove(&self.vars);
+        self.vars.remove_row(rows, drops.vars);
+        self.vars.join_row(rows, vars);
+        self.vars.remove(&lost);
+        self.functions.remove_row(rows, drops.functions);
+        self.functions.join_row(rows, functions);
     }
 
-    // What is left if a function or a utility of its name was called: what the function does not
-    // drop. If the name is `getopts`, OPTARG is not left.
-    fn after_either(&self, names: &Names, function: &[u8], rows: &Rows, drops: &Drops) -> Assured
+    // Becomes what is left if a function or a utility of its name was called: what the function does
+    // not drop. If the name is `getopts`, OPTARG is not left.
+    fn pass_either(&mut self, names: &Names, function: &[u8], rows: &Rows, drops: &Drops)
         ensures { AreNumbered names.now
-            → assured_facts names.now result
+            → assured_facts names.now self.new
             ≡ views.left (drops_of (in_byte_order names.now) rows.now drops.now) function.now
-            (contains names.now self.now.vars) (contains names.now self.now.functions) self.now.args }
+            (contains names.now self.old.vars) (contains names.now self.old.functions) self.old.args }
     {
         let mut vars = self.vars;
         vars.remove_row(rows, drops.vars);
         if is_getopts(function) {
             vars.remove_name(names, b"OPTARG");
         }
-        let mut functions = self.functions;
-        functions.remove_row(rows, drops.functions);
-        Assured {
-            vars,
-            functions,
-            args: self.args,
-        }
+        self.vars = vars;
+        self.functions.remove_row(rows, drops.functions);
     }
 }
 
@@ -409,12 +400,20 @@ impl Knowledge {
             → ((t : Text) → is_one_of names.now t ≡ true → contains names.now prefixes.now t ≡ is_one_of before t)
             → knowledge_facts names.now self.new ≡ views.step c (views.Call function.now r before) (knowledge_facts names.now self.old) }
     {
-        if let Knowledge::Known(assured) = self {
-            *self = if assured.functions.has_name(names, function) {
-                assured.after_return(rows, returned, prefixes)
-            } else {
-                Knowledge::Known(assured.after_either(names, function, rows, &returned.drops))
-            };
+        let Knowledge::Known(assured) = self else {
+            return;
+        };
+        if !assured.functions.has_name(names, function) {
+            assured.pass_either(names, function, rows, &returned.drops);
+            return;
+        }
+        match returned.facts {
+            Facts::NotReached => *self = Knowledge::NotReached,
+            Facts::Known {
+                vars,
+                functions,
+                ..
+            } => assured.pass_return(rows, &returned.drops, vars, functions, prefixes),
         }
     }
 

@@ -18,60 +18,56 @@ use sh_rules::elements::{behind_into, gain_prefixes, is_redirected, prefix_set};
 use sh_rules::{Asked, Claims, Fault, Place};
 use sh_tree::Element;
 
-// Without OPTARG, if a utility may have run that unsets it.
+// Leaves out OPTARG, if a utility may have run that unsets it.
 #[tactic(auto, unfolding(sh_rules::specs::Calls::passed))]
-fn passed(claims: &Claims<'_>, function: &[u8], known: &Knowledge) -> Knowledge
-    ensures { facts_in (setting claims.now) result ≡ spec.passed (setting claims.now) function.now (facts_in (setting claims.now) known.now) }
+fn pass(claims: &Claims<'_>, function: &[u8], known: &mut Knowledge)
+    ensures { facts_in (setting claims.now) known.new ≡ spec.passed (setting claims.now) function.now (facts_in (setting claims.now) known.old) }
 {
-    let mut left = *known;
     if function == b"getopts".as_slice() {
-        lose_variable(claims, b"OPTARG", &mut left);
+        lose_variable(claims, b"OPTARG", known);
     }
-    left
 }
 
-// After a call of a function that the certificate does not have.
-fn call_unknown(claims: &Claims<'_>, function: &[u8], known: &Knowledge) -> Knowledge
-    ensures { (r : views.Slot) (before : List Text) → IsUnknown (setting claims.now) function.now r → facts_in (setting claims.now) result ≡ simple.called (setting claims.now) function.now r before (facts_in (setting claims.now) known.now) }
+// Goes on after a call of a function that the certificate does not have.
+fn call_unknown(claims: &Claims<'_>, function: &[u8], known: &mut Knowledge)
+    ensures { (r : views.Slot) (before : List Text) → IsUnknown (setting claims.now) function.now r → facts_in (setting claims.now) known.new ≡ simple.called (setting claims.now) function.now r before (facts_in (setting claims.now) known.old) }
 {
     if known.has_function(claims.names, function) {
-        Knowledge::NotReached
+        *known = Knowledge::NotReached;
     } else {
-        passed(claims, function, known)
+        pass(claims, function, known);
     }
 }
 
-// After a call of a function that has these prefix assignments.
+// Goes on after a call of a function that has these prefix assignments.
 fn call_known(
     claims: &Claims<'_>,
     function: &[u8],
     returned: &Return,
     elements: &[Element],
-    known: &Knowledge,
-) -> Knowledge
-    ensures { (r : views.Slot) → IsReturn (setting claims.now) function.now r returned.now → facts_in (setting claims.now) result ≡ simple.called (setting claims.now) function.now r (prefixes (elements_from (setting claims.now).script elements.now)) (facts_in (setting claims.now) known.now) }
+    known: &mut Knowledge,
+)
+    ensures { (r : views.Slot) → IsReturn (setting claims.now) function.now r returned.now → facts_in (setting claims.now) known.new ≡ simple.called (setting claims.now) function.now r (prefixes (elements_from (setting claims.now).script elements.now)) (facts_in (setting claims.now) known.old) }
 {
     let prefixes = prefix_set(claims, elements);
-    let mut behind = *known;
-    behind.call(
+    known.call(
         claims.names,
         function,
         &claims.certificate.rows,
         returned,
         &prefixes,
     );
-    behind
 }
 
-// Where a function has returned.
+// Goes on to where a function has returned.
 fn call(
     claims: &Claims<'_>,
     function: &[u8],
     returned: Option<Return>,
     elements: &[Element],
-    known: &Knowledge,
-) -> Knowledge
-    ensures { (r : views.Slot) → Returns (setting claims.now) function.now r returned → facts_in (setting claims.now) result ≡ simple.called (setting claims.now) function.now r (prefixes (elements_from (setting claims.now).script elements.now)) (facts_in (setting claims.now) known.now) }
+    known: &mut Knowledge,
+)
+    ensures { (r : views.Slot) → Returns (setting claims.now) function.now r returned → facts_in (setting claims.now) known.new ≡ simple.called (setting claims.now) function.now r (prefixes (elements_from (setting claims.now).script elements.now)) (facts_in (setting claims.now) known.old) }
 {
     match returned {
         Some(returned) => call_known(claims, function, &returned, elements, known),
@@ -79,48 +75,26 @@ fn call(
     }
 }
 
-fn call_zero(
-    claims: &Claims<'_>,
-    function: &[u8],
-    elements: &[Element],
-    known: &Knowledge,
-) -> Knowledge
-    ensures { facts_in (setting claims.now) result ≡ simple.called (setting claims.now) function.now (views.ReturnsZero function.now) (prefixes (elements_from (setting claims.now).script elements.now)) (facts_in (setting claims.now) known.now) }
+fn call_zero(claims: &Claims<'_>, function: &[u8], elements: &[Element], known: &mut Knowledge)
+    ensures { facts_in (setting claims.now) known.new ≡ simple.called (setting claims.now) function.now (views.ReturnsZero function.now) (prefixes (elements_from (setting claims.now).script elements.now)) (facts_in (setting claims.now) known.old) }
 {
-    call(
-        claims,
-        function,
-        claims.return_zero(function),
-        elements,
-        known,
-    )
+    let returned = claims.return_zero(function);
+    call(claims, function, returned, elements, known);
 }
 
-fn call_nonzero(
-    claims: &Claims<'_>,
-    function: &[u8],
-    elements: &[Element],
-    known: &Knowledge,
-) -> Knowledge
-    ensures { facts_in (setting claims.now) result ≡ simple.called (setting claims.now) function.now (views.ReturnsNonzero function.now) (prefixes (elements_from (setting claims.now).script elements.now)) (facts_in (setting claims.now) known.now) }
+fn call_nonzero(claims: &Claims<'_>, function: &[u8], elements: &[Element], known: &mut Knowledge)
+    ensures { facts_in (setting claims.now) known.new ≡ simple.called (setting claims.now) function.now (views.ReturnsNonzero function.now) (prefixes (elements_from (setting claims.now).script elements.now)) (facts_in (setting claims.now) known.old) }
 {
-    call(
-        claims,
-        function,
-        claims.return_nonzero(function),
-        elements,
-        known,
-    )
+    let returned = claims.return_nonzero(function);
+    call(claims, function, returned, elements, known);
 }
 
-// What a function is entered with: the names of the prefix assignments, and the operands.
-fn entry(claims: &Claims<'_>, elements: &[Element], known: &Knowledge) -> Knowledge
-    ensures { facts_in (setting claims.now) result ≡ spec.entered (setting claims.now) (elements_from (setting claims.now).script elements.now) (facts_in (setting claims.now) known.now) }
+// Becomes what a function is entered with: the names of the prefix assignments, and the operands.
+fn enter(claims: &Claims<'_>, elements: &[Element], known: &mut Knowledge)
+    ensures { facts_in (setting claims.now) known.new ≡ spec.entered (setting claims.now) (elements_from (setting claims.now).script elements.now) (facts_in (setting claims.now) known.old) }
 {
-    let mut inside = *known;
-    count_words(claims, behind_name(elements), 0, &mut inside);
-    gain_prefixes(claims, elements, &mut inside);
-    inside
+    count_words(claims, behind_name(elements), 0, known);
+    gain_prefixes(claims, elements, known);
 }
 
 // A failed redirection of a call leaves what was known before it.
@@ -160,11 +134,14 @@ pub fn tell_call<A: Asked>(
     let fault = Fault { number, rule };
     let mut known = Knowledge::NotReached;
     behind_into(claims, number, elements, &mut known);
-    let inside = entry(claims, elements, &known);
-    let zero = call_zero(claims, function, elements, &known);
-    let nonzero = call_nonzero(claims, function, elements, &known);
+    let mut inside = known;
+    enter(claims, elements, &mut inside);
     asked.bound(claims, Place::Entry(function), fault, &inside);
+    let mut zero = known;
+    call_zero(claims, function, elements, &mut zero);
     asked.bound(claims, Place::Zero(number), fault, &zero);
+    let mut nonzero = known;
+    call_nonzero(claims, function, elements, &mut nonzero);
     asked.bound(claims, Place::Nonzero(number), fault, &nonzero);
     tell_redirection(claims, number, is_redirected(elements), &known, asked);
 }

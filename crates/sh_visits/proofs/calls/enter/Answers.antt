@@ -1,6 +1,6 @@
 use Rattle.sh_rules.specs.Walks.{facts_in, setting}
 use Rattle.sh_rules.proofs.CallLemmas.{entered}
-use Rattle.sh_visits.proofs.calls.entry.Goals as goal
+use Rattle.sh_visits.proofs.calls.enter.Goals as goal
 
 pub returns : goal.returns
 returns c =

@@ -5,8 +5,8 @@ use Rattle.sh_domain.specs.Knowledge.{contains}
 use Rattle.sh_domain.specs.NumberSets.{numbers_of}
 use Rattle.sh_domain.proofs.KnowledgeLemmas.{either_with, either_without, row_left}
 use Rattle.sh_domain.proofs.MeetLemmas.{known_same}
-use Rattle.sh_domain.proofs.knowledge.Assured.after_either.Goals.{then-is_getopts, else-is_getopts}
-use Rattle.sh_domain.proofs.knowledge.Assured.after_either.Goals as goal
+use Rattle.sh_domain.proofs.knowledge.Assured.pass_either.Goals.{then-is_getopts, else-is_getopts}
+use Rattle.sh_domain.proofs.knowledge.Assured.pass_either.Goals as goal
 
 pub returns : goal.returns
 returns c h =
