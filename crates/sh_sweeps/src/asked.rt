@@ -1,12 +1,39 @@
 //! Gathers what the flow rules require of a certificate.
-ghost use Rattle.std.specs.Prelude.{◌≡◌};
-ghost use Rattle.sh_drafts.specs.Gathered.{Gathered};
+ghost use Rattle.std.specs.Prelude.{◌≡◌, option_map};
+ghost use Rattle.sh_rules.specs.Places.{slot_of};
+ghost use Rattle.sh_rules.specs.Settings.{claimed_at};
+ghost use Rattle.sh_rules.specs.Walks.{facts_in, setting};
+ghost use Rattle.sh_drafts.specs.Gathered.{Gathered, bounded};
+ghost use Rattle.sh_drafts.specs.Places.{place_of};
+ghost use Rattle.sh_drafts.specs.Spots.{place_at};
 ghost use Rattle.sh_sweeps.specs.Asked.{gathered_of, gathering};
 
 use crate::gather::Gather;
 use crate::slots::{index_of, spot_of};
 use sh_domain::Knowledge;
+use sh_drafts::Spot;
 use sh_rules::{Asked, Claims, Fault, Place};
+
+impl Gather {
+    /// A place, which is this spot, may claim no more than this.
+    pub fn bound_at(
+        &mut self,
+        claims: &Claims<'_>,
+        place: Place<'_>,
+        spot: Option<Spot>,
+        known: &Knowledge,
+    )
+        requires { option_map place_at spot ≡ place_of (setting claims.now).functions (slot_of place) }
+        ensures { gathered_of self.new ≡ bounded (setting claims.now).names (setting claims.now).functions (slot_of place.entry)
+            (claimed_at (setting claims.now) (slot_of place.entry)) (facts_in (setting claims.now) known.now) (gathered_of self.old) }
+    {
+        let facts = claims.facts_at(place);
+        let is_kept = claims.is_known(&facts, known);
+        if self.see_place(spot, is_kept) {
+            self.meet(claims.names, known);
+        }
+    }
+}
 
 /// What is known at the place that is sought, and what its function has to drop.
 impl Asked for Gather {
@@ -21,12 +48,8 @@ impl Asked for Gather {
     ghost asked = { gathering };
 
     fn bound(&mut self, claims: &Claims<'_>, place: Place<'_>, _fault: Fault, known: &Knowledge) {
-        let facts = claims.facts_at(place);
-        let is_kept = claims.is_known(&facts, known);
         let spot = spot_of(claims, place);
-        if self.see_place(spot, is_kept) {
-            self.meet(claims.names, known);
-        }
+        self.bound_at(claims, place, spot, known);
     }
 
     fn drop_variable(&mut self, claims: &Claims<'_>, function: &[u8], _fault: Fault, name: &[u8]) {

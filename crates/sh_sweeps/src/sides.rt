@@ -44,10 +44,10 @@ impl Asked for Sides {
 
     ghost asked = { siding };
 
-    fn bound(&mut self, claims: &Claims<'_>, place: Slot<'_>, fault: Fault, known: &Knowledge) {
+    fn bound(&mut self, claims: &Claims<'_>, place: Slot<'_>, _fault: Fault, known: &Knowledge) {
         let next = self.gather.next.place;
-        self.gather.bound(claims, place, fault, known);
         let spot = spot_of(claims, place);
+        self.gather.bound_at(claims, place, spot, known);
         if is_place(spot, self.place) {
             self.gather.next.place = next;
             meet_known(&mut self.known, claims.names, known);

@@ -8,10 +8,10 @@ pub returns-then-is_place : goal.returns-then-is_place
 unfolding facts_in setting sided_of gathered_of
 returns-then-is_place c =
     let x = setting c.args.claims.now in
-    side_here x.names x.functions _ _ _ _ _ _ _ _ _ c.bound.ensures c.spot_of-spot.ensures c.is_place.ensures _ c.if-is_place.true c.meet_known.ensures
+    side_here x.names x.functions _ _ _ _ _ _ _ _ _ c.bound_at.ensures c.spot_of-spot.ensures c.is_place.ensures _ c.if-is_place.true c.meet_known.ensures
 
 pub returns-else-is_place : goal.returns-else-is_place
 unfolding facts_in setting sided_of gathered_of
 returns-else-is_place c =
     let x = setting c.args.claims.now in
-    side_away x.names x.functions _ _ _ _ _ _ _ _ _ c.bound.ensures c.spot_of-spot.ensures c.is_place.ensures c.if-is_place.false
+    side_away x.names x.functions _ _ _ _ _ _ _ _ _ c.bound_at.ensures c.spot_of-spot.ensures c.is_place.ensures c.if-is_place.false
