@@ -52,7 +52,7 @@ const LOOKS: u64 = 8;
 // How many looks there are for each command until counts that fall alone are solved apart.
 const LONE_LOOKS: u64 = 2;
 
-// After more rounds than these in which counts alone fell, a sweep leaves a loop at first.
+// In so many rounds more counts alone may fall until a sweep leaves a loop, if it was begun anew.
 const ROUNDS: u32 = 2;
 
 // How many rows more than twice those that claims have there may be for each command.
@@ -74,9 +74,10 @@ pub fn rest_after(counted: u64, commands: usize) -> u64 {
 }
 
 /// After more rounds than these in which counts alone fell, a sweep leaves a loop, if it was begun
-/// anew so often: a hint. So a loop whose counts have no equations is left a few times alone.
+/// anew so often: a hint. The first sweep follows no count back. Each later one follows counts
+/// longer, so a loop whose counts have no equations is left a few times alone.
 pub fn rounds_after(begun: u32) -> u32 {
-    ROUNDS << begun.min(MOST_DOUBLED)
+    (ROUNDS << begun.min(MOST_DOUBLED)).saturating_sub(ROUNDS)
 }
 
 /// How many looks there may be at so many commands until sweeps carry what is known, if there were
@@ -96,6 +97,13 @@ pub fn tires_after(looks: u64, commands: usize) -> u64 {
 pub fn room_after(rows: usize, commands: usize) -> usize {
     let more = commands.saturating_add(32).saturating_mul(ROWS);
     rows.saturating_mul(2).saturating_add(more)
+}
+
+/// How many names are claimed at a place, and how many parameters.
+#[derive(Clone, Copy, Debug, PartialEq, Eq)]
+pub struct Size {
+    pub names: u64,
+    pub args: u16,
 }
 
 // How many numbers are in the row of a place.
@@ -158,9 +166,9 @@ impl Draft {
         self.has_left || self.is_tired()
     }
 
-    /// How often something fell that was no count of parameters: a hint.
-    pub fn falls_of_names(&self) -> u64 {
-        self.lowered.saturating_sub(self.counted)
+    /// Whether a sweep follows a count that fell alone back to what it has gone over: a hint.
+    pub fn follows_counts(&self) -> bool {
+        self.rounds > 0
     }
 
     /// Whether sweeps carry what is known over utilities that leave it, and lower nothing there: a
@@ -171,9 +179,13 @@ impl Draft {
 
     /// How much is claimed at the turns of the loop whose command has this number: a hint. Claims only
     /// fall, so one of the same size is the same, even if its rows are at other places by now.
-    pub fn size_at_turns(&self, number: u32) -> Option<u64> {
+    pub fn size_at_turns(&self, number: u32) -> Option<Size> {
+        let names = u64::MAX;
         match self.certificate.heads.get(&number)? {
-            Facts::NotReached => Some(u64::MAX),
+            Facts::NotReached => Some(Size {
+                names,
+                args: u16::MAX,
+            }),
             Facts::Known {
                 vars,
                 functions,
@@ -181,10 +193,10 @@ impl Draft {
             } => {
                 let vars = size_of(&self.certificate.rows, *vars);
                 let functions = size_of(&self.certificate.rows, *functions);
-                Some(
-                    vars.saturating_add(functions)
-                        .saturating_add(u64::from(*args)),
-                )
+                Some(Size {
+                    names: vars.saturating_add(functions),
+                    args: *args,
+                })
             }
         }
     }

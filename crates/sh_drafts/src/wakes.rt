@@ -72,6 +72,10 @@ pub fn note_place(
     if !draft.is_count {
         draft.tires = tires_after(draft.looks, subject.commands.len());
     }
+    if draft.is_count && !draft.follows_counts() && place.part.is_of_function() {
+        draft.has_left = true;
+        return Ok(());
+    }
     wake_place(subject, &mut draft.waiting, place)
 }
 

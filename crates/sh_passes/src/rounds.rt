@@ -8,7 +8,7 @@ ghost use Rattle.sh_drafts.specs.Ready.{IsReady, IsSwept};
 use crate::own::lower_head;
 use crate::sweep::sweep_inside;
 use sh_domain::{Facts, FlowRule, Knowledge};
-use sh_drafts::{Draft, Subject};
+use sh_drafts::{Draft, Size, Subject};
 use sh_rules::{Around, Loops};
 use sh_tree::Command;
 use std::alloc::AllocError;
@@ -20,12 +20,11 @@ fn is_passed_once(draft: &Draft, around: &Around<'_>, number: u32) -> bool {
     matches!(around.loops, Loops::Inside(_, _)) && matches!(head, Some(Facts::NotReached))
 }
 
-// One more round if counts alone fell in the last one, which began with so many other falls.
-fn counted_on(draft: &Draft, before: u64, rounds: u32) -> u32 {
-    if draft.falls_of_names() == before {
-        rounds.saturating_add(1)
-    } else {
-        0
+// One more round if the count alone fell at the turns of a loop in the last one.
+fn counted_on(before: Option<Size>, after: Option<Size>, rounds: u32) -> u32 {
+    match (before, after) {
+        (Some(before), Some(after)) if before.names == after.names => rounds.saturating_add(1),
+        _ => 0,
     }
 }
 
@@ -54,14 +53,14 @@ pub fn sweep_rounds(
     lower_head(subject, draft, by, around, known, command)?;
     let mut rounds = 0;
     for _round in 0..u32::MAX {
-        let size = draft.size_at_turns(command.number);
-        let before = draft.falls_of_names();
+        let before = draft.size_at_turns(command.number);
         sweep_inside(subject, draft, levels, around, command)?;
         lower_head(subject, draft, by, around, known, command)?;
-        if size == draft.size_at_turns(command.number) {
+        let after = draft.size_at_turns(command.number);
+        if after == before {
             return Ok(());
         }
-        rounds = counted_on(&*draft, before, rounds);
+        rounds = counted_on(before, after, rounds);
         let is_left = rounds > draft.rounds;
         if is_left {
             draft.has_left = true;
