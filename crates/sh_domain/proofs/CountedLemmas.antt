@@ -4,7 +4,7 @@
 -- Numbers do not rise along a tree, since the bodies of here-documents come after their operators;
 -- so what commands weigh by their numbers is summed, and what passes the sum is the weight of all
 -- numbers that were given.
-use Rattle.std.proofs.Common.{◌≡◌, ℕ, zero, suc, ◌+◌, ◌-◌, ◌==◌, cond, nat_le, Bool, true, false, if◌then◌else◌, Option, List, [], ◌∷◌, ◌++◌, flat_map, refl, ap, ◌∙◌, subst, length, arith, length-append, true≢false}
+use Rattle.std.proofs.Common.{◌≡◌, ℕ, ◌+◌, ◌-◌, ◌==◌, cond, nat_le, Bool, true, false, if◌then◌else◌, Option, List, [], ◌∷◌, ◌++◌, flat_map, refl, ap, ◌∙◌, subst, length, arith, length-append}
 use Rattle.std.specs.List.{sum_by}
 use Rattle.std.specs.Option.{option_map_or}
 use Rattle.std.proofs.lemmas.List.Sums.{sum_by-append, sum_by-cons}
@@ -44,10 +44,12 @@ use Rattle.sh_tree.specs.standard.language.HereDocuments.{Mark, delimiter_of}
 use Rattle.sh_tree.specs.standard.language.Parts.{is_quoted_word}
 use Rattle.sh_tree.specs.standard.language.Reading as r
 use Rattle.sh_tree.specs.standard.language.Reading.{figure_span, over, lead_of, lead_here, skip, parted, unopened, ReadsParts, ReadsPart, ReadsExpression, ReadsConditional, ReadsLevel, ReadsOperands, ReadsUnary, ReadsWord, ReadsRedirect, ReadsRedirects, ReadsDocuments, ReadsBreaks, ReadsElements, ReadsCommand, ReadsCompound, ReadsDo, ReadsBranches, ReadsElse, ReadsForWords, ReadsWords, ReadsClauses, ReadsPatterns, ReadsPipeline, ReadsCommands, ReadsAndOr, ReadsLinks, ReadsItems, ReadsList, ReadsSequence, ReadsScript, ReadsTo}
-use Rattle.sh_tree.specs.standard.language.States.{Spot, State, Document, nth, document_count, waits}
+use Rattle.sh_tree.specs.standard.language.States.{Spot, State, Document, nth, document_count}
 use Rattle.sh_tree.specs.standard.language.Trees as tree
 use Rattle.sh_tree.specs.standard.language.Trees.{span}
 use Rattle.sh_tree.specs.Commands.{commands_of, of_script, of_item, of_and_or, of_link, of_pipe, of_command, of_redirect, of_step, of_kind, of_element, of_branch, of_word, of_clause, of_part, of_expression}
+use Rattle.sh_reads.proofs.DocumentLemmas as documents
+use Rattle.sh_reads.proofs.DocumentLemmas.{none_wait}
 use Rattle.sh_domain.proofs.NumberCounts.{next_given}
 use Rattle.sh_tree.proofs.CommandLemmas.{script_out, item_out, and_or_out, pipe_out, command_out, branch_out, clause_out, of_kind-Simple, of_kind-Group, of_kind-Subshell, of_kind-Cond, of_kind-Loop, of_kind-For, of_kind-Branches, of_kind-Define, of_element-Assignment, of_element-Word, of_element-Redirection, of_target-File, of_target-Here, of_part-Double, of_part-Param, of_part-Arith, of_part-Command, of_operator-Value, of_operator-Length, of_operator-Use, of_operator-Remove, of_expression-Expansion, of_expression-Parenthesis, of_expression-Unary, of_expression-Chain, of_expression-Choice, of_expression-Assign}
 
@@ -148,47 +150,11 @@ module _ (w : ℕ → ℕ) where
   abbrev in_body : Document → ℕ
   in_body d = weight (of_word d.text)
 
-  -- in the bodies that have come
-  in_bodies : List Document → ℕ
-  in_bodies [] = 0
-  in_bodies (d ∷ ds) = in_body d + in_bodies ds
+  abbrev in_bodies : List Document → ℕ
+  in_bodies = documents.in_bodies in_body
 
-  -- in those of the first m operators
-  of_operators : (ℕ → Document) → ℕ → ℕ
-  of_operators body zero = 0
-  of_operators body (suc m) = of_operators body m + in_body (body m)
-
-  bodies_push : (ds : List Document) (d : Document) → in_bodies (ds ++ d ∷ []) ≡ in_bodies ds + in_body d
-  unfolding in_bodies
-  bodies_push [] d = omega arith
-  bodies_push (c ∷ ds) d = let rest = bodies_push ds d in omega arith
-
-  operators_push : (body : ℕ → Document) (k m : ℕ) → m ≡ k + 1 → of_operators body m ≡ of_operators body k + in_body (body k)
-  unfolding of_operators
-  operators_push body k m e = let same : m ≡ suc k = omega arith in rw same refl
-
-  nth_operators : (d : Document) (ds : List Document) (m : ℕ) → of_operators (nth (d ∷ ds)) (suc m) ≡ in_body d + of_operators (nth ds) m
-  unfolding of_operators nth
-  nth_operators d ds zero = omega arith
-  nth_operators d ds (suc m) = let rest = nth_operators d ds m in omega arith
-
-  all_operators : (ds : List Document) → of_operators (nth ds) (length ds) ≡ in_bodies ds
-  unfolding of_operators in_bodies
-  all_operators [] = refl
-  all_operators (d ∷ ds) = let first = nth_operators d ds (length ds) in let rest = all_operators ds in omega arith
-
-  no_operators : (body : ℕ → Document) → of_operators body 0 ≡ 0
-  unfolding of_operators
-  no_operators body = refl
-
-  no_bodies : in_bodies [] ≡ 0
-  unfolding in_bodies
-  no_bodies = refl
-
-  none_wait : (ms : List Mark) → waits ms ≡ false → length ms ≡ 0
-  unfolding waits
-  none_wait [] h = refl
-  none_wait (m ∷ ms) h = absurd (true≢false h)
+  abbrev of_operators : (ℕ → Document) → ℕ → ℕ
+  of_operators = documents.of_operators in_body
 
   -- what the numbers from 1 to a count weigh together
   module _ (given : ℕ → ℕ) (next : (i : ℕ) → w (i + 1) + given i ≡ given (i + 1)) where
@@ -294,7 +260,7 @@ module _ (w : ℕ → ℕ) where
           let inside = word_gives i in
           let exact = inside.exact in
           let mark : Mark = record { strip = strip; quoted = is_quoted_word v; delimiter = delimiter_of b v; depth = s.spot.depth } in
-          let more = operators_push body (document_count s) (length s.bodies + length (s.pending ++ mark ∷ [])) (omega (arith, length-append s.pending (mark ∷ []))) in
+          let more = documents.operators_push in_body body (document_count s) (length s.bodies + length (s.pending ++ mark ∷ [])) (omega (arith, length-append s.pending (mark ∷ []))) in
           let text = (body (document_count s)).text in
           gives_is (of_both _ (of_word v) (of_word text) (of_target-Here (tree.here_doc strip v text (body (document_count s)).end))) (record { exact = omega arith })
 
@@ -311,7 +277,7 @@ module _ (w : ℕ → ℕ) where
           let exact = inside.exact in
           let rest = documents_give j c in
           let behind = rest.0.exact in
-          let push = bodies_push s.bodies d in
+          let push = documents.bodies_push in_body s.bodies d in
           let pushed = length-append s.bodies (d ∷ []) in
           let count = rest.1 in
           (record { exact = omega arith }, omega arith, rest.2)
@@ -482,10 +448,10 @@ module _ (w : ℕ → ℕ) where
       script_gives (r.script {u = u} i h) =
           let inside = sequence_gives i in
           let no_more = none_wait u.pending h in
-          let all = all_operators u.bodies in
+          let all = documents.all_operators in_body u.bodies in
           let same : of_operators (nth u.bodies) (document_count u) ≡ of_operators (nth u.bodies) (length u.bodies) = ap (of_operators (nth u.bodies)) (omega arith) in
-          let first = no_operators (nth u.bodies) in
-          let before = no_bodies in
+          let first = documents.no_operators in_body (nth u.bodies) in
+          let before = documents.no_bodies in_body in
           let exact = inside.exact in
           record { exact = omega arith }
 

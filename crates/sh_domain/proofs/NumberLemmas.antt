@@ -3,7 +3,7 @@
 --
 -- Numbers do not rise along a program either, so they are counted as spots are (OnceLemmas); what
 -- passes them is the count of commands.
-use Rattle.std.proofs.Common.{◌≡◌, ℕ, zero, suc, ◌+◌, ◌-◌, ◌==◌, Bool, true, false, if◌then◌else◌, Option, List, [], ◌∷◌, ◌++◌, refl, ap, subst, ◌∙◌, ◌≤◌, length, arith, length-append, cond, nat_le}
+use Rattle.std.proofs.Common.{◌≡◌, ℕ, ◌+◌, ◌-◌, ◌==◌, Bool, true, false, if◌then◌else◌, Option, List, [], ◌∷◌, ◌++◌, refl, ap, subst, ◌∙◌, ◌≤◌, length, arith, length-append, cond, nat_le}
 use Rattle.sh_tree.specs.declared.tree.AndOr.{AndOr}
 use Rattle.sh_tree.specs.declared.tree.Binary.{Binary}
 use Rattle.sh_tree.specs.declared.tree.Branch.{Branch}
@@ -33,7 +33,7 @@ use Rattle.sh_tree.specs.standard.language.Commands.{name_end, is_newline_lead, 
 use Rattle.sh_tree.specs.standard.language.HereDocuments.{Mark, delimiter_of}
 use Rattle.sh_tree.specs.standard.language.Reading as r
 use Rattle.sh_tree.specs.standard.language.Reading.{after, figure_at, figure_span, over, lead_of, lead_here, skip, behind_name, parted, unopened, ReadsParts, ReadsPart, ReadsExpression, ReadsConditional, ReadsLevel, ReadsOperands, ReadsUnary, ReadsWord, ReadsRedirect, ReadsRedirects, ReadsDocuments, ReadsBreaks, ReadsElements, ReadsCommand, ReadsCompound, ReadsDo, ReadsBranches, ReadsElse, ReadsForWords, ReadsWords, ReadsClauses, ReadsPatterns, ReadsPipeline, ReadsCommands, ReadsAndOr, ReadsLinks, ReadsItems, ReadsList, ReadsSequence, ReadsScript, ReadsTo, Reads, sign_at}
-use Rattle.sh_tree.specs.standard.language.States.{Spot, State, Document, nth, document_count, waits}
+use Rattle.sh_tree.specs.standard.language.States.{Spot, State, Document, nth, document_count}
 use Rattle.sh_tree.specs.standard.language.Trees as tree
 use Rattle.sh_tree.specs.standard.language.Trees.{span}
 use Rattle.sh_tree.specs.Lists.{parts_from, words_from, operands_from, items_from, links_from, commands_from, elements_from, redirects_from, branches_from, otherwise_from, for_words_from, clauses_from}
@@ -42,7 +42,8 @@ use Rattle.sh_tree.specs.standard.program.Trees.{part_of, expression_of, script_
 use Rattle.sh_tree.specs.standard.Tree.{text_of}
 use Rattle.sh_tree.proofs.ProgramRules.{parts_from-empty, parts_from-more, words_from-empty, words_from-more, operands_from-empty, operands_from-more, items_from-empty, links_from-empty, links_from-more, commands_from-empty, commands_from-more, elements_from-empty, redirects_from-empty, redirects_from-more, branches_from-empty, clauses_from-empty, otherwise_from-None, otherwise_from-Some, for_words_from-None, for_words_from-Some, kind_of-Simple, kind_of-Group, kind_of-Subshell, kind_of-Cond, kind_of-Loop, kind_of-For, kind_of-Branches, kind_of-Define, elements_from-Assignment, elements_from-Word, elements_from-Redirection, target_of-File, target_of-Here, part_of-Plain, part_of-Escaped, part_of-Single, part_of-Double, part_of-Param, part_of-Arith, part_of-Command, part_of-Tilde, part_of-Joined, operator_of-Value, operator_of-Length, operator_of-Use, operator_of-Remove, expression_of-Constant, expression_of-Variable, expression_of-Expansion, expression_of-Parenthesis, expression_of-Unary, expression_of-Chain, expression_of-Choice, expression_of-Assign}
 use Rattle.sh_reads.proofs.ProgramTrees.{script_made, items_made, and_or_made, pipe_made, command_made, branches_made, clauses_made}
-use Rattle.std.proofs.lemmas.Bool.{true≢false}
+use Rattle.sh_reads.proofs.DocumentLemmas as documents
+use Rattle.sh_reads.proofs.DocumentLemmas.{none_wait}
 use Rattle.sh_tree.specs.standard.language.Parts.{is_quoted_word}
 use Rattle.sh_runs.specs.Surroundings.{Surroundings, outside, in_loop, in_function, in_part, in_item, items_located, list_located, links_located, pipeline_located, commands_located, command_located, kind_located, elements_located, redirect_located, redirects_located, branches_located, otherwise_located, for_words_located, words_located, clauses_located, word_located, part_located, expression_located, operands_located}
 use Rattle.sh_domain.specs.Readings.{ReadNumbersDiffer}
@@ -56,47 +57,11 @@ module _ (whole : List ℕ) (n : ℕ) where
   abbrev in_body : Document → ℕ
   in_body d = held n (word_located (parts_from whole d.text.parts))
 
-  -- in the bodies that have come
-  in_bodies : List Document → ℕ
-  in_bodies [] = 0
-  in_bodies (d ∷ ds) = in_body d + in_bodies ds
+  abbrev in_bodies : List Document → ℕ
+  in_bodies = documents.in_bodies in_body
 
-  -- in those of the first m operators
-  of_operators : (ℕ → Document) → ℕ → ℕ
-  of_operators body zero = 0
-  of_operators body (suc m) = of_operators body m + in_body (body m)
-
-  bodies_push : (ds : List Document) (d : Document) → in_bodies (ds ++ d ∷ []) ≡ in_bodies ds + in_body d
-  unfolding in_bodies
-  bodies_push [] d = omega arith
-  bodies_push (c ∷ ds) d = let rest = bodies_push ds d in omega arith
-
-  operators_push : (body : ℕ → Document) (k m : ℕ) → m ≡ k + 1 → of_operators body m ≡ of_operators body k + in_body (body k)
-  unfolding of_operators
-  operators_push body k m e = let same : m ≡ suc k = omega arith in rw same refl
-
-  nth_operators : (d : Document) (ds : List Document) (m : ℕ) → of_operators (nth (d ∷ ds)) (suc m) ≡ in_body d + of_operators (nth ds) m
-  unfolding of_operators nth
-  nth_operators d ds zero = omega arith
-  nth_operators d ds (suc m) = let rest = nth_operators d ds m in omega arith
-
-  all_operators : (ds : List Document) → of_operators (nth ds) (length ds) ≡ in_bodies ds
-  unfolding of_operators in_bodies
-  all_operators [] = refl
-  all_operators (d ∷ ds) = let first = nth_operators d ds (length ds) in let rest = all_operators ds in omega arith
-
-  no_operators : (body : ℕ → Document) → of_operators body 0 ≡ 0
-  unfolding of_operators
-  no_operators body = refl
-
-  no_bodies : in_bodies [] ≡ 0
-  unfolding in_bodies
-  no_bodies = refl
-
-  none_wait : (ms : List Mark) → waits ms ≡ false → length ms ≡ 0
-  unfolding waits
-  none_wait [] h = refl
-  none_wait (m ∷ ms) h = absurd (true≢false h)
+  abbrev of_operators : (ℕ → Document) → ℕ → ℕ
+  of_operators = documents.of_operators in_body
 
   -- one where the number is given among so many commands
   given : ℕ → ℕ
@@ -232,7 +197,7 @@ module _ (whole : List ℕ) (n : ℕ) where
         let exact = inside.exact in
         let bare = delimiter_bare whole b w n d in
         let mark : Mark = record { strip = strip; quoted = is_quoted_word w; delimiter = delimiter_of b w; depth = s.spot.depth } in
-        let more = operators_push body (document_count s) (length s.bodies + length (s.pending ++ mark ∷ [])) (omega (arith, length-append s.pending (mark ∷ []))) in
+        let more = documents.operators_push in_body body (document_count s) (length s.bodies + length (s.pending ++ mark ∷ [])) (omega (arith, length-append s.pending (mark ∷ []))) in
         rw (target_of-Here whole (tree.here_doc strip w (body (document_count s)).text (body (document_count s)).end)) (gives_is (held_here n _) (record { exact = omega arith }))
 
     redirects_give : {limit : ℕ} {b : List ℕ} {body : ℕ → Document} {s u : State} {ys : List Redirect} → ReadsRedirects limit b body s u ys
@@ -250,7 +215,7 @@ module _ (whole : List ℕ) (n : ℕ) where
         let exact = inside.exact in
         let rest = documents_give j c in
         let behind = rest.0.exact in
-        let push = bodies_push s.bodies d in
+        let push = documents.bodies_push in_body s.bodies d in
         let pushed = length-append s.bodies (d ∷ []) in
         let count = rest.1 in
         (record { exact = omega arith }, omega arith, rest.2)
@@ -439,10 +404,10 @@ module _ (whole : List ℕ) (n : ℕ) where
     script_gives y (r.script {u = u} i h) =
         let inside = sequence_gives y i in
         let none = none_wait u.pending h in
-        let all = all_operators u.bodies in
+        let all = documents.all_operators in_body u.bodies in
         let same : of_operators (nth u.bodies) (document_count u) ≡ of_operators (nth u.bodies) (length u.bodies) = ap (of_operators (nth u.bodies)) (omega arith) in
-        let first = no_operators (nth u.bodies) in
-        let before = no_bodies in
+        let first = documents.no_operators in_body (nth u.bodies) in
+        let before = documents.no_bodies in_body in
         let exact = inside.exact in
         record { exact = omega arith }
 

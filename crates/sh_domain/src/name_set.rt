@@ -8,14 +8,13 @@ use crate::sights::{Seen, names_seen};
 use indexmap::IndexSet;
 use sh_tree::{MAX_NAMES, Refusal, Script, commands};
 use std::alloc::{AllocError, Global};
-use std::hash::{BuildHasherDefault, DefaultHasher};
 use std::marker::Model;
 
 /// The names of a script: those that every script has, those of its policy and those in its text,
-/// each once. The hash is SipHash, since others pick the names.
+/// each once.
 #[derive(Debug, Drop)]
 pub(crate) struct NameSet {
-    set: IndexSet<Vec<u8>, BuildHasherDefault<DefaultHasher>>,
+    set: IndexSet<Vec<u8>>,
 }
 
 impl Model for NameSet {
@@ -49,7 +48,7 @@ impl NameSet {
     {
         let seen = names_in(alloc, tree, script)?;
         let mut names = NameSet {
-            set: IndexSet::with_hasher(alloc, BuildHasherDefault::new()),
+            set: IndexSet::new(alloc),
         };
         names.add_texts(&[b"IFS", b"OPTIND", b"PPID", b"OPTARG", b"!"])?;
         names.add_declared(policy.names())?;

@@ -7,16 +7,34 @@ use crate::place::{Part, Place};
 use crate::subject::Subject;
 use crate::target::Target;
 use sh_domain::{Drops, Facts, RowId};
-use sh_worklist::Waiting;
+use sh_worklist::{Flags, Look, Waiting};
 use std::alloc::AllocError;
 
-// Has the bodies of the function of an index wait.
+// Adds an index to a set. Reports whether it was not there.
+fn is_news(indices: &mut Flags, index: u16) -> bool {
+    let is_news = !indices.has(u32::from(index));
+    indices.add(u32::from(index));
+    is_news
+}
+
+// Has the bodies of the function of an index wait, unless they all do.
 fn wake_bodies(subject: &Subject<'_>, waiting: &mut Waiting, index: u16) -> Result<(), AllocError> {
     if index as usize >= subject.table.functions().len() {
         return Ok(());
     }
+    if !is_news(&mut waiting.entered, index) {
+        return Ok(());
+    }
     let definitions = subject.table.definitions(index as u32 + 1);
     waiting.wait_bodies(definitions)
+}
+
+// Has the callers of the function of an index wait, unless they all do.
+fn wake_callers(waiting: &mut Waiting, index: u16) -> Result<(), AllocError> {
+    if !is_news(&mut waiting.called, index) {
+        return Ok(());
+    }
+    waiting.wait_calls(index as usize)
 }
 
 // Has those wait that look at a place. The sweep itself goes on to what looks at the other places.
@@ -27,9 +45,26 @@ fn wake_place(
 ) -> Result<(), AllocError> {
     match place.part {
         Part::Entered => wake_bodies(subject, waiting, place.index),
-        Part::ReturnZero | Part::ReturnNonzero => waiting.wait_calls(place.index as usize),
+        Part::ReturnZero | Part::ReturnNonzero => wake_callers(waiting, place.index),
         Part::Before | Part::Zero | Part::Nonzero | Part::Head => Ok(()),
     }
+}
+
+/// A sweep looks at a command, which waits no longer. Returns whether it waited.
+pub fn look(subject: &Subject<'_>, waiting: &mut Waiting, command: u32) -> Look {
+    if let Some(function) = subject.table.callee(command) {
+        waiting.called.take(function.saturating_sub(1));
+    }
+    waiting.look(command)
+}
+
+/// A sweep goes into a body of the function of an index. Returns the index of the one that it was
+/// in.
+pub fn enter_function(waiting: &mut Waiting, index: u16) -> u16 {
+    waiting.entered.take(u32::from(index));
+    let outer = waiting.function;
+    waiting.function = index;
+    outer
 }
 
 // The rows of facts.
@@ -47,7 +82,7 @@ fn rows_of(facts: Option<Facts>) -> Option<(RowId, RowId)> {
 }
 
 /// Notes whether what is claimed at a place was lowered, which was this before, and has those wait
-/// that look at it.
+/// that look at it. None waits for a count alone while the sweeps follow no count back.
 ///
 /// # Errors
 ///
@@ -97,7 +132,7 @@ pub fn note_lowered(
 {
     note_place(subject, draft, target.place, before, is_lowered)?;
     if drops_of(&draft.certificate, target.function) != drops {
-        draft.waiting.wait_calls(target.function as usize)?;
+        wake_callers(&mut draft.waiting, target.function)?;
     }
     Ok(())
 }

@@ -20,7 +20,7 @@ ghost use Rattle.sh_drafts.specs.Ready.{IsReady, IsSwept, Keeps};
 
 use crate::sweep::{LEVELS, sweep_definition, sweep_items};
 use sh_domain::{Certificate, FlowRule, Knowledge};
-use sh_drafts::{Draft, Place, Subject, lower_assured};
+use sh_drafts::{Draft, Place, Subject, enter_function, lower_assured};
 use sh_rules::{Place as Slot, alone, begun};
 use sh_sweeps::known::{nonzero_of, zero_of};
 use sh_sweeps::{claims_of, spot_of};
@@ -28,8 +28,12 @@ use sh_tree::{Command, Kind, Span};
 use sh_worklist::Unit;
 use std::alloc::AllocError;
 
-/// Lowers the certificate in the bodies of the function that a command calls, except those over
-/// which a pass has begun and the call does not go again.
+// How many bodies of a function a call goes over at once. The others are left to later units, so
+// that a function of many definitions is not gone over for each call.
+const AT_ONCE: usize = 1024;
+
+/// Lowers the certificate in the first bodies of the function that a command calls, except those
+/// over which a pass has begun and the call does not go again.
 ///
 /// # Errors
 ///
@@ -47,7 +51,8 @@ pub fn sweep_called(
     let Some(function) = subject.table.callee(command.number) else {
         return Ok(());
     };
-    for number in subject.table.definitions(function) {
+    let definitions = subject.table.definitions(function);
+    for number in &definitions[..definitions.len().min(AT_ONCE)] {
         sweep_unseen(subject, draft, levels, *number)?;
     }
     Ok(())
@@ -166,6 +171,12 @@ fn sweep_defined(
     }
 }
 
+// The index of a function, or the first if a script may not have it: a hint.
+fn index_of(subject: &Subject<'_>, name: &[u8]) -> u16 {
+    let place = subject.table.function_place(name).unwrap_or(0);
+    u16::try_from(place).unwrap_or(0)
+}
+
 // Lowers the certificate in the body of a function, and where the function returns.
 #[cycle(sweep)]
 fn sweep_body(
@@ -180,8 +191,10 @@ fn sweep_body(
         × IsPart subject.now (command_entered by y q (p.command n offset (p.Define (text_of subject.now.script.now name) (trees.command_of subject.now.script.now body.now)) rs)) }
     ensures swept { IfOk result (λ unit. IsSwept subject.now draft.old.certificate draft.new.certificate draft.new.probe.count) }
 {
-    sweep_definition(subject, draft, levels, name, body)?;
     let text = name.text(subject.script);
+    let outer = enter_function(&mut draft.waiting, index_of(subject, text));
+    sweep_definition(subject, draft, levels, name, body)?;
+    draft.waiting.function = outer;
     let zero = zero_of(subject, &draft.certificate, body.number);
     let place = place_in(subject, &draft.certificate, Slot::ReturnZero(text));
     lower_return(subject, draft, place, &zero)?;

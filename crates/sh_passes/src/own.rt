@@ -98,9 +98,12 @@ fn index_of(command: &Command) -> u16 {
     u16::try_from(command.number.saturating_sub(1)).unwrap_or(0)
 }
 
-// Whether a place is one of the command of an index, and the function the first: a hint.
-fn is_own(target: Target, index: u16) -> bool {
-    target.function == 0 && target.place.index == index && !target.place.part.is_of_function()
+// Whether a place is one of the command of an index, and the function the one that a sweep is in: a
+// hint.
+fn is_own(draft: &Draft, target: Target, index: u16) -> bool {
+    target.function == draft.waiting.function
+        && target.place.index == index
+        && !target.place.part.is_of_function()
 }
 
 // Whether a function is entered here, and was not yet: a hint.
@@ -196,20 +199,21 @@ pub fn lower_head(
     let index = index_of(command);
     let part = Part::Head;
     let place = Place { part, index };
-    let target = Target { place, function: 0 };
+    let function = draft.waiting.function;
+    let target = Target { place, function };
     lower_others(subject, draft, by, around, known, command, index, target)?;
     Ok(())
 }
 
-// Nothing was asked yet of both places after the command of an index.
-fn both_places(index: u16) -> Sides
+// Nothing was asked yet of both places after the command of an index, and of a function.
+fn both_places(index: u16, function: u16) -> Sides
     ensures numbers { (names : ℕ) → AreNumbersBeside names (sided_of result) }
     ensures quiet { IsQuietBeside (sided_of result) }
     ensures stands { (names : List Text) (other : Sheet) → StandsBeside names other (sided_of result) }
 {
     let part = Part::Zero;
     let place = Place { part, index };
-    let target = Target { place, function: 0 };
+    let target = Target { place, function };
     let part = Part::Nonzero;
     let place = Place { part, index };
     let gather = Gather::new(target);
@@ -294,7 +298,7 @@ fn lower_sides(
     requires placed { IsCommand subject.now by (walks.around subject.now.script.now around.now) (knowledge_facts subject.now.names.now known.now) command.now }
     ensures swept { IfOk result (λ answer. IsSwept subject.now draft.old.certificate draft.new.certificate draft.new.probe.count) }
 {
-    let mut sides = both_places(index);
+    let mut sides = both_places(index, draft.waiting.function);
     ask_behind(
         subject,
         &draft.certificate,
@@ -330,7 +334,7 @@ fn lower_others(
     ensures swept { IfOk result (λ unit. IsSwept subject.now draft.old.certificate draft.new.certificate draft.new.probe.count) }
 {
     let (kept, next) = lower_once(subject, draft, by, around, known, command, target)?;
-    if kept || is_own(next, index) || next == target {
+    if kept || is_own(&*draft, next, index) || next == target {
         return Ok(());
     }
     lower_once(subject, draft, by, around, known, command, next)?;
@@ -357,7 +361,7 @@ pub fn lower_behind(
 {
     let index = index_of(command);
     let (kept, next) = lower_sides(subject, draft, by, around, known, command, index)?;
-    if kept || is_own(next, index) {
+    if kept || is_own(&*draft, next, index) {
         return Ok(());
     }
     lower_others(subject, draft, by, around, known, command, index, next)?;

@@ -25,7 +25,7 @@ use crate::rounds::sweep_rounds;
 use crate::words::{sweep_elements, sweep_for_words, sweep_redirections};
 use sh_domain::{FlowRule, Knowledge};
 use sh_drafts::inner::is_in_elements;
-use sh_drafts::{Draft, Subject};
+use sh_drafts::{Draft, Subject, look};
 use sh_rules::{Around, Behind, Course, alone, begun, in_function, meet};
 use sh_sweeps::known::{
     behind_pipe, entry_of, head_of, inside_of, pass_all, pass_link, pass_on, process_of,
@@ -384,7 +384,7 @@ fn sweep_command(
     if levels == 0 {
         return lower_command(subject, draft, by, around, known, command);
     }
-    let look = draft.waiting.look(command.number);
+    let look = look(subject, &mut draft.waiting, command.number);
     let outer = draft.waiting.enter_command(command.number);
     sweep_looked(subject, draft, levels - 1, by, around, known, command, look)?;
     draft.waiting.leave(outer);

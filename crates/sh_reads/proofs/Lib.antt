@@ -9,4 +9,5 @@ pub mod ProgramTrees
 pub mod HitLemmas
 pub mod SpotCounts
 pub mod BelowLemmas
+pub mod DocumentLemmas
 pub mod OnceLemmas

@@ -4,7 +4,7 @@
 -- operator. So a spot is counted. In what is read it occurs at most as often as the reading passes
 -- it and the bodies of its operators have it. What the bodies have that come meanwhile is taken
 -- off.
-use Rattle.std.proofs.Common.{◌≡◌, ℕ, zero, suc, ◌+◌, ◌-◌, Bool, true, false, if◌then◌else◌, Option, List, [], ◌∷◌, ◌++◌, drop, refl, sym, ap, subst, ◌∙◌, ◌<◌, ◌≤◌, min, max, length, take, le_refl, le_trans, arith, length-append, length-take}
+use Rattle.std.proofs.Common.{◌≡◌, ℕ, ◌+◌, ◌-◌, Bool, true, false, if◌then◌else◌, Option, List, [], ◌∷◌, ◌++◌, drop, refl, sym, ap, subst, ◌∙◌, ◌<◌, ◌≤◌, min, max, length, take, le_refl, le_trans, arith, length-append, length-take}
 use Rattle.sh_tree.specs.declared.tree.AndOr.{AndOr}
 use Rattle.sh_tree.specs.declared.tree.Binary.{Binary}
 use Rattle.sh_tree.specs.declared.tree.Branch.{Branch}
@@ -41,7 +41,7 @@ use Rattle.sh_tree.specs.standard.language.HereDocuments.{Mark, behind_line, del
 use Rattle.sh_tree.specs.standard.language.Substitutions.{backquote_end, commands_text}
 use Rattle.sh_tree.specs.standard.language.Reading as r
 use Rattle.sh_tree.specs.standard.language.Reading.{figure_at, figure_span, over, lead_of, lead_here, skip, behind_name, parted, unopened, ReadsParts, ReadsPart, ReadsExpression, ReadsConditional, ReadsLevel, ReadsOperands, ReadsUnary, ReadsWord, ReadsRedirect, ReadsRedirects, ReadsDocuments, ReadsBreaks, ReadsElements, ReadsCommand, ReadsCompound, ReadsDo, ReadsBranches, ReadsElse, ReadsForWords, ReadsWords, ReadsClauses, ReadsPatterns, ReadsPipeline, ReadsCommands, ReadsAndOr, ReadsLinks, ReadsItems, ReadsList, ReadsSequence, ReadsScript, Reads, sign_at}
-use Rattle.sh_tree.specs.standard.language.States.{Spot, State, Document, nth, to, next, facing, begun, document_count, waits}
+use Rattle.sh_tree.specs.standard.language.States.{Spot, State, Document, nth, to, next, facing, begun, document_count}
 use Rattle.sh_tree.specs.standard.language.Trees as tree
 use Rattle.sh_tree.specs.standard.language.Trees.{span}
 use Rattle.sh_tree.specs.Lists.{parts_from, words_from, operands_from, items_from, links_from, commands_from, elements_from, redirects_from, branches_from, otherwise_from, for_words_from, clauses_from}
@@ -50,6 +50,8 @@ use Rattle.sh_tree.specs.standard.program.Trees.{part_of, expression_of, script_
 use Rattle.sh_tree.specs.standard.Tree.{text_of}
 use Rattle.sh_tree.proofs.ProgramRules.{parts_from-empty, parts_from-more, words_from-empty, words_from-more, operands_from-empty, operands_from-more, items_from-empty, links_from-empty, links_from-more, commands_from-empty, commands_from-more, elements_from-empty, redirects_from-empty, redirects_from-more, branches_from-empty, clauses_from-empty, otherwise_from-None, otherwise_from-Some, for_words_from-None, for_words_from-Some, kind_of-Simple, kind_of-Group, kind_of-Subshell, kind_of-Cond, kind_of-Loop, kind_of-For, kind_of-Branches, kind_of-Define, elements_from-Assignment, elements_from-Word, elements_from-Redirection, target_of-File, target_of-Here, part_of-Plain, part_of-Escaped, part_of-Single, part_of-Double, part_of-Param, part_of-Arith, part_of-Command, part_of-Tilde, part_of-Joined, operator_of-Value, operator_of-Length, operator_of-Use, operator_of-Remove, expression_of-Constant, expression_of-Variable, expression_of-Expansion, expression_of-Parenthesis, expression_of-Unary, expression_of-Chain, expression_of-Choice, expression_of-Assign}
 use Rattle.sh_reads.proofs.GapLemmas.{blanks_gap}
+use Rattle.sh_reads.proofs.DocumentLemmas as documents
+use Rattle.sh_reads.proofs.DocumentLemmas.{none_wait}
 use Rattle.sh_reads.proofs.ProgramTrees.{script_made, items_made, and_or_made, pipe_made, command_made, branches_made, clauses_made}
 use Rattle.sh_reads.proofs.SettledLemmas.{IsSettled, settled_next, settled_past, settled_parted, redirect_settled, breaks_settled, for_words_settled, pipeline_settled, and_or_settled, list_settled}
 use Rattle.std.proofs.lemmas.Bool.{true≢false}
@@ -96,48 +98,11 @@ module _ (whole : List ℕ) (q : Place) where
   abbrev in_body : Document → ℕ
   in_body d = hits q (word_spots (parts_from whole d.text.parts))
 
-  -- in the bodies that have come
-  in_bodies : List Document → ℕ
-  in_bodies [] = 0
-  in_bodies (d ∷ ds) = in_body d + in_bodies ds
+  abbrev in_bodies : List Document → ℕ
+  in_bodies = documents.in_bodies in_body
 
-  -- in those of the first n operators
-  of_operators : (ℕ → Document) → ℕ → ℕ
-  of_operators body zero = 0
-  of_operators body (suc n) = of_operators body n + in_body (body n)
-
-  bodies_push : (ds : List Document) (d : Document) → in_bodies (ds ++ d ∷ []) ≡ in_bodies ds + in_body d
-  unfolding in_bodies
-  bodies_push [] d = omega arith
-  bodies_push (c ∷ ds) d = let rest = bodies_push ds d in omega arith
-
-  operators_push : (body : ℕ → Document) (n m : ℕ) → m ≡ n + 1 → of_operators body m ≡ of_operators body n + in_body (body n)
-  unfolding of_operators
-  operators_push body n m e = let same : m ≡ suc n = omega arith in rw same refl
-
-  nth_operators : (d : Document) (ds : List Document) (n : ℕ) → of_operators (nth (d ∷ ds)) (suc n) ≡ in_body d + of_operators (nth ds) n
-  unfolding of_operators nth
-  nth_operators d ds zero = omega arith
-  nth_operators d ds (suc n) = let rest = nth_operators d ds n in omega arith
-
-  -- where each has come they are the same
-  all_operators : (ds : List Document) → of_operators (nth ds) (length ds) ≡ in_bodies ds
-  unfolding of_operators in_bodies
-  all_operators [] = refl
-  all_operators (d ∷ ds) = let first = nth_operators d ds (length ds) in let rest = all_operators ds in omega arith
-
-  no_operators : (body : ℕ → Document) → of_operators body 0 ≡ 0
-  unfolding of_operators
-  no_operators body = refl
-
-  no_bodies : in_bodies [] ≡ 0
-  unfolding in_bodies
-  no_bodies = refl
-
-  none_wait : (ms : List Mark) → waits ms ≡ false → length ms ≡ 0
-  unfolding waits
-  none_wait [] h = refl
-  none_wait (m ∷ ms) h = absurd (true≢false h)
+  abbrev of_operators : (ℕ → Document) → ℕ → ℕ
+  of_operators = documents.of_operators in_body
 
   -- what a reading from s to u passes
   abbrev Passes : List ℕ → Spot → Spot → ℕ → Type 0
@@ -236,7 +201,7 @@ module _ (whole : List ℕ) (q : Place) where
   operator_runs : (body : ℕ → Document) (long i j n m : ℕ) → i ≤ j → m ≡ n + 1 → Spans q long i j (in_body (body n)) (of_operators body n) (of_operators body m)
   operator_runs body long i j n m moves more = record {
     moves = moves;
-    bound = λ k l. let push = operators_push body n m more in let grows = below_grows q long k (max k j) (omega arith) in omega arith;
+    bound = λ k l. let push = documents.operators_push in_body body n m more in let grows = below_grows q long k (max k j) (omega arith) in omega arith;
   }
 
   mutual
@@ -422,7 +387,7 @@ module _ (whole : List ℕ) (q : Place) where
         let line = end_line_moves _ b s.spot.at l h in
         let more = line_behind b l.end in
         let d : Document = record { text = tree.word s.spot.at l.start ps; end = l } in
-        let first = document_goes b l.start s.spot.at _ (behind_line b l.end) _ c (in_bodies s.bodies) _ line.0 (le_trans line.1 more) (bodies_push s.bodies d) (parts_pass i).0 in
+        let first = document_goes b l.start s.spot.at _ (behind_line b l.end) _ c (in_bodies s.bodies) _ line.0 (le_trans line.1 more) (documents.bodies_push in_body s.bodies d) (parts_pass i).0 in
         let rest = documents_go j c in
         let pushed = length-append s.bodies (d ∷ []) in
         let count = rest.1 in
@@ -714,10 +679,10 @@ module _ (whole : List ℕ) (q : Place) where
     script_pass {b = b} here (r.script {u = u} i h) =
         let inside = sequence_goes here i in
         let none = none_wait u.pending h in
-        let all = all_operators u.bodies in
+        let all = documents.all_operators in_body u.bodies in
         let same : of_operators (nth u.bodies) (document_count u) ≡ of_operators (nth u.bodies) (length u.bodies) = ap (of_operators (nth u.bodies)) (omega arith) in
-        let first = no_operators (nth u.bodies) in
-        let before = no_bodies in
+        let first = documents.no_operators in_body (nth u.bodies) in
+        let before = documents.no_bodies in_body in
         let bound = inside.bound in
         (inside.moves, omega arith)
 

@@ -10,7 +10,6 @@ ghost use Rattle.sh_runs.specs.Sites.{Site};
 use indexmap::IndexSet;
 use sh_tree::Span;
 use std::alloc::{AllocError, Global};
-use std::hash::{BuildHasherDefault, DefaultHasher};
 use std::marker::Model;
 
 /// A function definition: the number of its command, and the function's name.
@@ -20,11 +19,10 @@ pub struct Definition {
     pub name: Span,
 }
 
-/// The names of functions, and for each the numbers of the commands that define it. The hash is
-/// SipHash, since others pick the names.
+/// The names of functions, and for each the numbers of the commands that define it.
 #[derive(Drop)]
 pub struct Functions {
-    names: IndexSet<Vec<u8>, BuildHasherDefault<DefaultHasher>>,
+    names: IndexSet<Vec<u8>>,
     definitions: Vec<Vec<u32>>,
 }
 
@@ -46,7 +44,7 @@ impl Functions {
         ensures { result ≡ functions_in [] [] }
     {
         Functions {
-            names: IndexSet::with_hasher(alloc, BuildHasherDefault::new()),
+            names: IndexSet::new(alloc),
             definitions: Vec::new(alloc),
         }
     }

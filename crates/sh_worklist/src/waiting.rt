@@ -11,6 +11,7 @@ ghost use Rattle.sh_worklist.specs.Waiting.{limit, waits, waits_in, waits_inside
 
 use crate::calls::Calls;
 use crate::commands::{Commands, Inside, Look};
+use crate::flags::Flags;
 use crate::units::{Unit, Units};
 use sh_table::CallTable;
 use std::alloc::{AllocError, Global};
@@ -22,6 +23,12 @@ pub struct Waiting {
     calls: Calls,
     inside: Inside,
     pub units: Units,
+    /// The functions, by their indices, whose callers all wait: a hint.
+    pub called: Flags,
+    /// The functions, by their indices, whose bodies all wait: a hint.
+    pub entered: Flags,
+    /// The index of the function whose body the sweep is in: a hint.
+    pub function: u16,
 }
 
 impl Waiting {
@@ -33,11 +40,15 @@ impl Waiting {
     pub fn all(alloc: Global, table: &CallTable<'_>) -> Result<Waiting, AllocError>
         ensures { IfOk result (λ waiting. (k : ℕ) → k ≤ length table.now.rows → waits waiting k ≡ true) }
     {
+        let functions = table.functions().len();
         Ok(Waiting {
             commands: Commands::all(alloc, table.rows().len() + 1)?,
             calls: Calls::of(alloc, table)?,
             inside: Inside::OUTSIDE,
             units: Units::all(alloc, table)?,
+            called: Flags::none(alloc, functions)?,
+            entered: Flags::none(alloc, functions)?,
+            function: 0,
         })
     }
 
