@@ -100,8 +100,8 @@ fn index_of(command: &Command) -> u16 {
 
 // Whether a place is one of the command of an index, and the function the one that a sweep is in: a
 // hint.
-fn is_own(draft: &Draft, target: Target, index: u16) -> bool {
-    target.function == draft.waiting.function
+fn is_own(function: u16, target: Target, index: u16) -> bool {
+    target.function == function
         && target.place.index == index
         && !target.place.part.is_of_function()
 }
@@ -334,7 +334,7 @@ fn lower_others(
     ensures swept { IfOk result (λ unit. IsSwept subject.now draft.old.certificate draft.new.certificate draft.new.probe.count) }
 {
     let (kept, next) = lower_once(subject, draft, by, around, known, command, target)?;
-    if kept || is_own(&*draft, next, index) || next == target {
+    if kept || is_own(draft.waiting.function, next, index) || next == target {
         return Ok(());
     }
     lower_once(subject, draft, by, around, known, command, next)?;
@@ -361,7 +361,7 @@ pub fn lower_behind(
 {
     let index = index_of(command);
     let (kept, next) = lower_sides(subject, draft, by, around, known, command, index)?;
-    if kept || is_own(&*draft, next, index) {
+    if kept || is_own(draft.waiting.function, next, index) {
         return Ok(());
     }
     lower_others(subject, draft, by, around, known, command, index, next)?;

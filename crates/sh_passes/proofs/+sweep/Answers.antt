@@ -759,11 +759,11 @@ rounds::sweep_rounds-returns-then-is_once = bodies.sweep_rounds-returns-then-is_
 pub rounds::sweep_rounds-returns : goal.rounds::sweep_rounds-returns
 rounds::sweep_rounds-returns = bodies.sweep_rounds-returns
 
-pub bodies::sweep_called-definitions-number-items-requires-clause-some : goal.bodies::sweep_called-definitions-number-items-requires-clause-some
-bodies::sweep_called-definitions-number-items-requires-clause-some = bodies.sweep_called-definitions-number-items-requires-clause-some
+pub bodies::sweep_called-definitions-definitions-requires-clause-some : goal.bodies::sweep_called-definitions-definitions-requires-clause-some
+bodies::sweep_called-definitions-definitions-requires-clause-some = bodies.sweep_called-definitions-definitions-requires-clause-some
 
-pub bodies::sweep_called-definitions-number-items-requires-clause-within : goal.bodies::sweep_called-definitions-number-items-requires-clause-within
-bodies::sweep_called-definitions-number-items-requires-clause-within = bodies.sweep_called-definitions-number-items-requires-clause-within
+pub bodies::sweep_called-definitions-definitions-requires-clause-within : goal.bodies::sweep_called-definitions-definitions-requires-clause-within
+bodies::sweep_called-definitions-definitions-requires-clause-within = bodies.sweep_called-definitions-definitions-requires-clause-within
 
 pub bodies::sweep_called-sweep_unseen-requires : goal.bodies::sweep_called-sweep_unseen-requires
 bodies::sweep_called-sweep_unseen-requires = bodies.sweep_called-sweep_unseen-requires

@@ -66,11 +66,11 @@ sweep_rounds-returns t c = record { swept = swept_more c.args.subject.now _ _ _ 
 
 -- The bodies of functions
 
-pub sweep_called-definitions-number-items-requires-clause-some : goal.bodies::sweep_called-definitions-number-items-requires-clause-some
-sweep_called-definitions-number-items-requires-clause-some t c = (callee_some c.args.subject.now.table.now (out-Command c.args.command.now).number c.in-Some.function (sym c.callee.ensures ∙ c.in-Some.is)).0
+pub sweep_called-definitions-definitions-requires-clause-some : goal.bodies::sweep_called-definitions-definitions-requires-clause-some
+sweep_called-definitions-definitions-requires-clause-some t c = (callee_some c.args.subject.now.table.now (out-Command c.args.command.now).number c.in-Some.function (sym c.callee.ensures ∙ c.in-Some.is)).0
 
-pub sweep_called-definitions-number-items-requires-clause-within : goal.bodies::sweep_called-definitions-number-items-requires-clause-within
-sweep_called-definitions-number-items-requires-clause-within t c = (callee_some c.args.subject.now.table.now (out-Command c.args.command.now).number c.in-Some.function (sym c.callee.ensures ∙ c.in-Some.is)).1
+pub sweep_called-definitions-definitions-requires-clause-within : goal.bodies::sweep_called-definitions-definitions-requires-clause-within
+sweep_called-definitions-definitions-requires-clause-within t c = (callee_some c.args.subject.now.table.now (out-Command c.args.command.now).number c.in-Some.function (sym c.callee.ensures ∙ c.in-Some.is)).1
 
 pub sweep_called-sweep_unseen-requires : goal.bodies::sweep_called-sweep_unseen-requires
 sweep_called-sweep_unseen-requires t c =
