@@ -15,6 +15,7 @@ mod number_set;
 mod numbered;
 mod operands;
 mod policy;
+mod row_hasher;
 mod rows;
 mod rule;
 mod sights;

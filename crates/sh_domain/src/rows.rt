@@ -4,10 +4,11 @@ ghost use Rattle.std.specs.Option.{option_copied};
 ghost use Rattle.sh_rows.specs.declared.bits.BitRow.{BitRow};
 ghost use Rattle.sh_domain.specs.KeptRows.{Stay, bits_of, holds_at};
 
+use crate::row_hasher::RowHasher;
 use indexmap::IndexSet;
 use sh_rows::{BitRow, Row};
 use std::alloc::{AllocError, Global};
-use std::hash::{BuildHasherDefault, DefaultHasher};
+use std::hash::BuildHasherDefault;
 use std::marker::Model;
 
 /// The place of a row among the rows of a certificate. Equal places are equal sets.
@@ -17,11 +18,9 @@ pub struct RowId {
 }
 
 /// Rows of numbers below a count, each set kept once.
-///
-/// The hash is SipHash: with the default one, whoever writes a certificate can have all rows collide.
 #[derive(Debug, Drop)]
 pub struct Rows {
-    set: IndexSet<BitRow, BuildHasherDefault<DefaultHasher>>,
+    set: IndexSet<BitRow, BuildHasherDefault<RowHasher>>,
     count: u32,
 }
 
