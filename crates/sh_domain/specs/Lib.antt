@@ -5,6 +5,7 @@ pub mod Sights
 pub mod SightWalks
 pub mod Names
 pub mod KeptRows
+pub mod RowHash
 pub mod NumberSets
 pub mod Knowledge
 pub mod examples

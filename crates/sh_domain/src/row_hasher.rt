@@ -1,43 +1,68 @@
 //! The hash of rows.
-ghost use Rattle.std.specs.Prelude.{◌≡◌, bit_xor};
+ghost use Rattle.std.specs.Prelude.{◌≡◌};
 ghost use Rattle.std.specs.Hash.FoldHasher as default;
-ghost use Rattle.std.specs.Int.{w64, rotate_left};
+ghost use Rattle.sh_domain.specs.RowHash as spec;
 
 use std::hash::{FoldHasher, Hasher};
 
-// By how many bits the sum of the states turns with each word.
+const MULTIPLIER: u64 = 0x9e37_79b9_7f4a_7c15;
+
+// By how many bits the state turns with each word.
 const TURN: u32 = 23;
 
-/// The kit's default hash, and a sum of all its states. A word that equals the state takes the
-/// default one to 0. So by that alone, whoever writes a certificate can have all rows collide.
-#[derive(Clone, Copy)]
+/// The kit's default hash, a word at a time, and the state that was before. By the default alone a
+/// word that equals the state takes it to 0, so whoever writes a certificate can have all rows
+/// collide.
+#[derive(Clone, Copy, Default)]
 pub(crate) struct RowHasher {
-    last: FoldHasher,
-    sum: u64,
+    state: u64,
 }
 
-impl Default for RowHasher {
-    ghost is_default = { λ h. h ≡ record { last = default.initial; sum = 0 } };
-
-    fn default() -> RowHasher {
-        RowHasher {
-            last: FoldHasher::default(),
-            sum: 0,
-        }
+// Eight bytes as a word, the lowest first, and the default hash of others.
+#[tactic(auto, unfolding(crate::specs::RowHash::word_of))]
+#[inline(always)]
+fn word_of(bytes: &[u8]) -> u64
+    ensures { result ≡ spec.word_of bytes.now }
+{
+    if bytes.len() == 8 {
+        return u64::from_le_bytes([
+            bytes[0], bytes[1], bytes[2], bytes[3], bytes[4], bytes[5], bytes[6], bytes[7],
+        ]);
     }
+    let mut other = FoldHasher::default();
+    other.write(bytes);
+    other.finish()
+}
+
+// The two halves of a product, joined.
+#[inline(always)]
+fn folded_multiply(a: u64, b: u64) -> u64
+    ensures { result ≡ default.folded_multiply a b }
+{
+    let product = a as u128 * b as u128;
+    (product & 0xFFFF_FFFF_FFFF_FFFF) as u64 ^ (product >> 64) as u64
+}
+
+#[tactic(auto, unfolding(crate::specs::RowHash::mixed))]
+#[inline(always)]
+fn mixed(state: u64, word: u64) -> u64
+    ensures { result ≡ spec.mixed state word }
+{
+    folded_multiply(state ^ word, MULTIPLIER) ^ state.rotate_left(TURN)
 }
 
 impl Hasher for RowHasher {
-    ghost write = { λ h bytes. record { last = default.write h.last bytes; sum = bit_xor (rotate_left w64 h.sum 23) (default.finish h.last) } };
+    ghost write = { λ h bytes. record { state = spec.mixed h.state (spec.word_of bytes) } };
 
-    ghost finish = { λ h. bit_xor h.sum (default.finish h.last) };
+    ghost finish = { λ h. h.state };
 
+    #[inline(always)]
     fn finish(&self) -> u64 {
-        self.sum ^ self.last.finish()
+        self.state
     }
 
+    #[inline(always)]
     fn write(&mut self, bytes: &[u8]) {
-        self.sum = self.sum.rotate_left(TURN) ^ self.last.finish();
-        self.last.write(bytes);
+        self.state = mixed(self.state, word_of(bytes));
     }
 }
