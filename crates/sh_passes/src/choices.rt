@@ -14,11 +14,12 @@ ghost use Rattle.sh_sweeps.specs.Sweeps.{AreBranches, AreClauses, IsIn};
 ghost use Rattle.sh_drafts.specs.Ready.{IsReady, IsSwept};
 
 use crate::sweep::{sweep_items, sweep_list};
-use crate::words::{pass_word, sweep_patterns};
+use crate::words::{does_list_wait, pass_word, sweep_patterns};
 use sh_domain::{FlowRule, Knowledge};
 use sh_drafts::{Draft, Subject};
 use sh_rules::{Around, begun, meet};
 use sh_tree::{Branch, Clause, Script, Word};
+use sh_worklist::Waiting;
 use std::alloc::AllocError;
 
 /// Lowers the certificate at the branches of `if`, and at what follows `else`.
@@ -76,6 +77,11 @@ fn sweep_branches(
     Ok(())
 }
 
+// Whether a command waits in a branch.
+fn does_branch_wait(waiting: &Waiting, branch: &Branch) -> bool {
+    does_list_wait(waiting, &branch.condition) || does_list_wait(waiting, &branch.body)
+}
+
 #[cycle(sweep)]
 fn sweep_branch(
     subject: &Subject<'_>,
@@ -93,6 +99,10 @@ fn sweep_branch(
         → AreBranches subject.now (walks.around subject.now.script.now around.now) (knowledge_facts subject.now.names.now known.old) (branches_from subject.now.script.now (branch.now ∷ others)) z
         → AreBranches subject.now (walks.around subject.now.script.now around.now) (knowledge_facts subject.now.names.now known.new) (branches_from subject.now.script.now others) z) }
 {
+    if !known.is_reached() && !does_branch_wait(&draft.waiting, branch) {
+        *known = Knowledge::NotReached;
+        return Ok(());
+    }
     let mut course = begun(FlowRule::F6, &*known);
     sweep_items(
         subject,
@@ -182,7 +192,17 @@ fn sweep_clause(
         → AreClauses subject.now (walks.around subject.now.script.now around.now) (knowledge_facts subject.now.names.now behind.now) (knowledge_facts subject.now.names.now fallen.new) (clauses_from subject.now.script.now others)) }
 {
     sweep_patterns(subject, draft, levels, behind, clause.patterns.as_slice())?;
+    if is_idle(&draft.waiting, behind, &*fallen, clause) {
+        *fallen = Knowledge::NotReached;
+        return Ok(());
+    }
     sweep_body(subject, draft, levels, around, behind, fallen, clause)
+}
+
+// Whether nothing is new to the list of a clause, and none waits in it: a hint.
+fn is_idle(waiting: &Waiting, behind: &Knowledge, fallen: &Knowledge, clause: &Clause) -> bool {
+    let is_reached = behind.is_reached() || fallen.is_reached();
+    !is_reached && !does_list_wait(waiting, &clause.body)
 }
 
 // Lowers the certificate at the list of a clause, and goes on after it.

@@ -3,6 +3,7 @@
 
 mod bodies;
 mod choices;
+mod links;
 mod own;
 mod rounds;
 mod sweep;

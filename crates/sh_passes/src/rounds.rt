@@ -44,6 +44,7 @@ pub fn sweep_rounds(
     around: &Around<'_>,
     known: &Knowledge,
     command: &Command,
+    is_new: bool,
 ) -> Result<(), AllocError>
     requires ready { IsReady subject.now draft.old.certificate draft.old.probe.count }
     requires placed { IsCommand subject.now by (walks.around subject.now.script.now around.now) (knowledge_facts subject.now.names.now known.now) command.now }
@@ -54,7 +55,7 @@ pub fn sweep_rounds(
     let mut rounds = 0;
     for _round in 0..u32::MAX {
         let before = draft.size_at_turns(command.number);
-        sweep_inside(subject, draft, levels, around, command)?;
+        sweep_inside(subject, draft, levels, around, command, is_new)?;
         lower_head(subject, draft, by, around, known, command)?;
         let after = draft.size_at_turns(command.number);
         if after == before {

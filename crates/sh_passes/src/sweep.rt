@@ -3,8 +3,6 @@
 ghost use Rattle.std.specs.Prelude.{◌∷◌, ◌<◌, ◌≤◌, ◌-◌, ℕ, List, true, length, take, drop, IfOk};
 ghost use Rattle.sh_tree.specs.standard.Tree.{text_of};
 ghost use Rattle.sh_tree.specs.declared.tree.Item as tree;
-ghost use Rattle.sh_tree.specs.declared.tree.Link as list_link;
-ghost use Rattle.sh_tree.specs.declared.tree.Pipe as pipeline;
 ghost use Rattle.sh_tree.specs.Lists.{items_from};
 ghost use Rattle.sh_tree.specs.standard.program.Syntax as p;
 ghost use Rattle.sh_tree.specs.standard.program.Trees as trees;
@@ -15,25 +13,27 @@ ghost use Rattle.sh_domain.specs.Facts.{Facts};
 ghost use Rattle.sh_domain.specs.Knowledge.{knowledge_facts};
 ghost use Rattle.sh_domain.specs.Views.{After, Seen, without_job};
 ghost use Rattle.sh_rules.specs.Walks as walks;
-ghost use Rattle.sh_sweeps.specs.Sweeps.{AreItems, AreLinks, AreParts, ArePassed, IsAndOr, IsCommand, IsInside, IsKind, IsList, IsPart, IsPassed, IsPipe, Knows, KnowsBehind, known_behind};
+ghost use Rattle.sh_sweeps.specs.Sweeps.{AreItems, AreParts, ArePassed, IsAndOr, IsCommand, IsInside, IsKind, IsList, IsPart, IsPassed, IsPipe, Knows, KnowsBehind, known_behind};
 ghost use Rattle.sh_drafts.specs.Ready.{IsReady, IsSwept};
 
 use crate::bodies::{is_called_again, sweep_called};
 use crate::choices::{sweep_case, sweep_cond};
+use crate::links::sweep_links;
 use crate::own::{lower_behind, lower_command};
 use crate::rounds::sweep_rounds;
 use crate::words::{sweep_elements, sweep_for_words, sweep_redirections};
-use sh_domain::{FlowRule, Knowledge};
+use sh_domain::{Facts, FlowRule, Knowledge};
 use sh_drafts::inner::is_in_elements;
-use sh_drafts::{Draft, Subject, look};
-use sh_rules::{Around, Behind, Course, alone, begun, in_function, meet};
+use sh_drafts::kept::facts_at;
+use sh_drafts::{Draft, Part, Place, Subject, look};
+use sh_rules::{Around, Course, alone, begun, in_function, meet};
 use sh_sweeps::known::{
-    behind_pipe, entry_of, head_of, inside_of, pass_all, pass_link, pass_on, process_of,
-    started_in, turn_of,
+    entry_of, head_of, pass_all, pass_on, process_of, started_in, turn_of,
 };
+use sh_sweeps::nowhere::{inside_if, leave_all, leave_item, pipe_if};
 use sh_sweeps::{News, carry_over, lower_before};
-use sh_tree::{AndOr, Command, Item, Kind, Link, LoopKind, Pipe, Script, Span};
-use sh_worklist::{Look, do_links_wait, does_item_wait, does_pipe_wait, next_place};
+use sh_tree::{AndOr, Command, Item, Kind, LoopKind, Pipe, Script, Span};
+use sh_worklist::{Inside, Look, do_links_wait, does_item_wait, next_place};
 use std::alloc::AllocError;
 
 /// How many levels are gone into: of commands, of parts of words, and of expressions in arithmetic.
@@ -64,7 +64,7 @@ pub fn sweep_items(
     ensures behind { IfOk result (λ unit. (o : After) → KnowsBehind subject.now o (known_behind subject.now course.old.behind)
         → KnowsBehind subject.now (items_after o (items_from subject.now.script.now items.now)) (known_behind subject.now course.new.behind)) }
 {
-    let mut news = News::Anything;
+    let mut news = news_before(&*course);
     let mut place = 0;
     while place < items.len() {
         let next = pass_idle(subject, &*draft, course, news, items, place);
@@ -75,6 +75,15 @@ pub fn sweep_items(
         news = sweep_or_pass(subject, draft, levels, around, course, news, item)?;
     }
     Ok(())
+}
+
+// What is new where a list is entered: a hint.
+fn news_before(course: &Course) -> News {
+    if course.behind.zero.is_reached() || course.behind.nonzero.is_reached() {
+        News::Anything
+    } else {
+        News::Nothing
+    }
 }
 
 // Goes on after the items from a place on that do not wait, if what is new is nothing new to them,
@@ -98,6 +107,10 @@ fn pass_idle(
         return carry_over(subject, draft, course, items, place);
     }
     let waits = next_place(&draft.waiting, items, place);
+    if news == News::Nothing {
+        leave_all(course, &items[place..waits]);
+        return waits;
+    }
     let next = news.place_of(items, place, waits);
     pass_all(subject, &draft.certificate, course, &items[place..next]);
     next
@@ -124,7 +137,7 @@ fn sweep_or_pass(
     let links = item.list.rest.as_slice().len() as u64;
     draft.looks = draft.looks.saturating_add(links);
     if news.passes(item) && !does_item_wait(&draft.waiting, item) {
-        pass_on(subject, &draft.certificate, course, item);
+        pass_by(subject, &*draft, course, news, item);
         return Ok(news.after(item));
     }
     let before = draft.lowered;
@@ -133,6 +146,18 @@ fn sweep_or_pass(
         return Ok(News::Anything);
     }
     Ok(news.after(item))
+}
+
+// Goes on after an item in which none waits, and to which what is new is nothing new.
+fn pass_by(subject: &Subject<'_>, draft: &Draft, course: &mut Course, news: News, item: &Item)
+    requires { IsReady subject.now draft.now.certificate draft.now.probe.count }
+    ensures { IsPassed subject.now course.old course.new item.now }
+{
+    if news == News::Nothing {
+        leave_item(course);
+    } else {
+        pass_on(subject, &draft.certificate, course, item);
+    }
 }
 
 // Lowers the certificate at the commands of an item, and goes on after it.
@@ -220,94 +245,22 @@ fn sweep_and_or(
     let before = draft.lowered;
     sweep_pipe(subject, draft, levels, by, around, known, &list.first)?;
     let links = list.rest.as_slice();
-    let is_new = draft.lowered != before || list.first.parts.as_slice().len() != 1;
+    let is_joined = known.is_reached() && list.first.parts.as_slice().len() != 1;
+    let is_new = draft.lowered != before || is_joined;
     if links.is_empty() || (!is_new && !do_links_wait(&draft.waiting, links)) {
         return Ok(());
     }
-    let mut behind = behind_pipe(subject, &draft.certificate, known, &list.first);
-    sweep_links(subject, draft, levels, around, &mut behind, is_new, links)
+    let mut behind = pipe_if(subject, &draft.certificate, known, &list.first, is_new);
+    sweep_links(subject, draft, levels, around, &mut behind, links)
 }
 
+/// Lowers the certificate at the commands of a pipeline.
+///
+/// # Errors
+///
+/// If a growth was refused.
 #[cycle(sweep)]
-fn sweep_links(
-    subject: &Subject<'_>,
-    draft: &mut Draft,
-    levels: u32,
-    around: &Around<'_>,
-    behind: &mut Behind,
-    is_new: bool,
-    links: &[(Link, Pipe)],
-) -> Result<(), AllocError>
-    requires ready { IsReady subject.now draft.old.certificate draft.old.probe.count }
-    requires placed { AreLinks subject.now (walks.around subject.now.script.now around.now) (known_behind subject.now behind.old) links.now }
-    ensures swept { IfOk result (λ unit. IsSwept subject.now draft.old.certificate draft.new.certificate draft.new.probe.count) }
-{
-    let mut is_new = is_new;
-    for link in links {
-        is_new = link_or_pass(subject, draft, levels, around, behind, is_new, link)?;
-    }
-    Ok(())
-}
-
-// As `sweep_or_pass`, of the pipeline after `&&` or `||`.
-#[cycle(sweep)]
-fn link_or_pass(
-    subject: &Subject<'_>,
-    draft: &mut Draft,
-    levels: u32,
-    around: &Around<'_>,
-    behind: &mut Behind,
-    is_new: bool,
-    link: &(Link, Pipe),
-) -> Result<bool, AllocError>
-    requires ready { IsReady subject.now draft.old.certificate draft.old.probe.count }
-    requires placed { (others : List (list_link.Link × pipeline.Pipe)) × AreLinks subject.now (walks.around subject.now.script.now around.now) (known_behind subject.now behind.old) (link.now ∷ others) }
-    ensures swept { IfOk result (λ is_new. IsSwept subject.now draft.old.certificate draft.new.certificate draft.new.probe.count) }
-    ensures passed { IfOk result (λ is_new. (others : List (list_link.Link × pipeline.Pipe))
-        → AreLinks subject.now (walks.around subject.now.script.now around.now) (known_behind subject.now behind.old) (link.now ∷ others)
-        → AreLinks subject.now (walks.around subject.now.script.now around.now) (known_behind subject.now behind.new) others) }
-{
-    if !is_new && !does_pipe_wait(&draft.waiting, &link.1) {
-        pass_link(subject, &draft.certificate, behind, link);
-        return Ok(false);
-    }
-    let before = draft.lowered;
-    sweep_link(subject, draft, levels, around, behind, link)?;
-    Ok(is_new || draft.lowered != before)
-}
-
-// Lowers the certificate at the pipeline after `&&` or `||`, and goes on after it.
-#[cycle(sweep)]
-fn sweep_link(
-    subject: &Subject<'_>,
-    draft: &mut Draft,
-    levels: u32,
-    around: &Around<'_>,
-    behind: &mut Behind,
-    link: &(Link, Pipe),
-) -> Result<(), AllocError>
-    requires ready { IsReady subject.now draft.old.certificate draft.old.probe.count }
-    requires placed { (others : List (list_link.Link × pipeline.Pipe)) × AreLinks subject.now (walks.around subject.now.script.now around.now) (known_behind subject.now behind.old) (link.now ∷ others) }
-    ensures swept { IfOk result (λ unit. IsSwept subject.now draft.old.certificate draft.new.certificate draft.new.probe.count) }
-    ensures passed { IfOk result (λ unit. (others : List (list_link.Link × pipeline.Pipe))
-        → AreLinks subject.now (walks.around subject.now.script.now around.now) (known_behind subject.now behind.old) (link.now ∷ others)
-        → AreLinks subject.now (walks.around subject.now.script.now around.now) (known_behind subject.now behind.new) others) }
-{
-    sweep_pipe(
-        subject,
-        draft,
-        levels,
-        FlowRule::F3,
-        around,
-        behind.at_link(link.0),
-        &link.1,
-    )?;
-    pass_link(subject, &draft.certificate, behind, link);
-    Ok(())
-}
-
-#[cycle(sweep)]
-fn sweep_pipe(
+pub fn sweep_pipe(
     subject: &Subject<'_>,
     draft: &mut Draft,
     levels: u32,
@@ -381,12 +334,15 @@ fn sweep_command(
     requires placed { IsCommand subject.now by (walks.around subject.now.script.now around.now) (knowledge_facts subject.now.names.now known.now) command.now }
     ensures swept { IfOk result (λ unit. IsSwept subject.now draft.old.certificate draft.new.certificate draft.new.probe.count) }
 {
+    if !known.is_reached() && !draft.waiting.has(command.number) {
+        return Ok(());
+    }
     if levels == 0 {
         return lower_command(subject, draft, by, around, known, command);
     }
     let look = look(subject, &mut draft.waiting, command.number);
     let outer = draft.waiting.enter_command(command.number);
-    sweep_looked(subject, draft, levels - 1, by, around, known, command, look)?;
+    sweep_looked(subject, draft, levels - 1, by, around, known, command, look, outer)?;
     draft.waiting.leave(outer);
     Ok(())
 }
@@ -402,12 +358,14 @@ fn sweep_looked(
     known: &Knowledge,
     command: &Command,
     look: Look,
+    outer: Inside,
 ) -> Result<(), AllocError>
     requires ready { IsReady subject.now draft.old.certificate draft.old.probe.count }
     requires placed { IsCommand subject.now by (walks.around subject.now.script.now around.now) (knowledge_facts subject.now.names.now known.now) command.now }
     ensures swept { IfOk result (λ unit. IsSwept subject.now draft.old.certificate draft.new.certificate draft.new.probe.count) }
 {
-    if !known.is_reached() && !look.inner && is_simple(&command.kind) {
+    let is_reached = known.is_reached() || is_entered(&*draft, command);
+    if !is_reached && !look.inner && is_simple(&command.kind) {
         return Ok(());
     }
     let before = draft.lowered;
@@ -417,10 +375,21 @@ fn sweep_looked(
         return Ok(());
     }
     if is_simple(&command.kind) {
-        sweep_simple(subject, draft, levels, by, around, known, command, is_new)
+        let is_inside = look.inner || draft.lowered != before;
+        let is_new = is_new && is_reached;
+        sweep_simple(
+            subject, draft, levels, by, around, known, command, is_new, is_inside,
+        )
     } else {
-        sweep_compound(subject, draft, levels, by, around, known, command, is_new)
+        sweep_compound(subject, draft, levels, by, around, known, command, is_new, outer)
     }
+}
+
+// Whether some run comes to a command, by what is claimed before it: a hint.
+fn is_entered(draft: &Draft, command: &Command) -> bool {
+    let index = u16::try_from(command.number.saturating_sub(1)).unwrap_or(0);
+    let part = Part::Before;
+    matches!(facts_at(&draft.certificate, Place { part, index }), Some(Facts::Known { .. }))
 }
 
 // Lowers the certificate at the commands in the words of a simple command, and after it if
@@ -436,13 +405,14 @@ fn sweep_simple(
     known: &Knowledge,
     command: &Command,
     is_new: bool,
+    is_inside: bool,
 ) -> Result<(), AllocError>
     requires ready { IsReady subject.now draft.old.certificate draft.old.probe.count }
     requires placed { IsCommand subject.now by (walks.around subject.now.script.now around.now) (knowledge_facts subject.now.names.now known.now) command.now }
     ensures swept { IfOk result (λ unit. IsSwept subject.now draft.old.certificate draft.new.certificate draft.new.probe.count) }
 {
-    sweep_held(subject, draft, levels, around, command)?;
-    if !is_new || !known.is_reached() {
+    sweep_held(subject, draft, levels, around, command, is_new, is_inside)?;
+    if !is_new {
         return Ok(());
     }
     let entered = draft.entered;
@@ -464,15 +434,17 @@ fn sweep_held(
     levels: u32,
     around: &Around<'_>,
     command: &Command,
+    is_new: bool,
+    is_inside: bool,
 ) -> Result<(), AllocError>
     requires ready { IsReady subject.now draft.old.certificate draft.old.probe.count }
     requires placed { IsInside subject.now (walks.around subject.now.script.now around.now) command.now }
     ensures swept { IfOk result (λ unit. IsSwept subject.now draft.old.certificate draft.new.certificate draft.new.probe.count) }
 {
-    if !is_in_elements(command.elements()) {
+    if !is_inside || !is_in_elements(command.elements()) {
         return Ok(());
     }
-    sweep_inside(subject, draft, levels, around, command)
+    sweep_inside(subject, draft, levels, around, command, is_new)
 }
 
 // Lowers the certificate in a compound command, and after it if something is new.
@@ -486,18 +458,51 @@ fn sweep_compound(
     known: &Knowledge,
     command: &Command,
     is_new: bool,
+    outer: Inside,
 ) -> Result<(), AllocError>
     requires ready { IsReady subject.now draft.old.certificate draft.old.probe.count }
     requires placed { IsCommand subject.now by (walks.around subject.now.script.now around.now) (knowledge_facts subject.now.names.now known.now) command.now }
     ensures swept { IfOk result (λ unit. IsSwept subject.now draft.old.certificate draft.new.certificate draft.new.probe.count) }
 {
     let before = draft.lowered;
-    sweep_rounds(subject, draft, levels, by, around, known, command)?;
+    sweep_rounds(subject, draft, levels, by, around, known, command, is_new)?;
+    sweep_again(subject, draft, levels, around, command, outer)?;
     if !is_new && draft.lowered == before {
         return Ok(());
     }
     lower_behind(subject, draft, by, around, known, command)?;
     Ok(())
+}
+
+// Goes over the branches of `if` and the clauses of `case` again, until none inside waits. So they
+// are joined once.
+#[cycle(sweep)]
+fn sweep_again(
+    subject: &Subject<'_>,
+    draft: &mut Draft,
+    levels: u32,
+    around: &Around<'_>,
+    command: &Command,
+    outer: Inside,
+) -> Result<(), AllocError>
+    requires ready { IsReady subject.now draft.old.certificate draft.old.probe.count }
+    requires placed { IsInside subject.now (walks.around subject.now.script.now around.now) command.now }
+    ensures swept { IfOk result (λ unit. IsSwept subject.now draft.old.certificate draft.new.certificate draft.new.probe.count) }
+{
+    for _round in 0..u32::MAX {
+        if !has_branches(&command.kind) || !draft.waiting.has(command.number) {
+            return Ok(());
+        }
+        draft.waiting.leave(outer);
+        draft.waiting.look(command.number);
+        draft.waiting.enter_command(command.number);
+        sweep_inside(subject, draft, levels, around, command, false)?;
+    }
+    Ok(())
+}
+
+fn has_branches(kind: &Kind) -> bool {
+    matches!(kind, Kind::Cond { .. } | Kind::Branches { .. })
 }
 
 fn is_simple(kind: &Kind) -> bool {
@@ -516,6 +521,7 @@ pub fn sweep_inside(
     levels: u32,
     around: &Around<'_>,
     command: &Command,
+    is_new: bool,
 ) -> Result<(), AllocError>
     requires ready { IsReady subject.now draft.old.certificate draft.old.probe.count }
     requires placed { IsInside subject.now (walks.around subject.now.script.now around.now) command.now }
@@ -523,8 +529,8 @@ pub fn sweep_inside(
 {
     let number = command.number;
     let redirects = command.redirects.as_slice();
-    sweep_redirections(subject, draft, levels, number, redirects)?;
-    let inside = inside_of(subject, &draft.certificate, command);
+    sweep_redirections(subject, draft, levels, number, redirects, is_new)?;
+    let inside = inside_if(subject, &draft.certificate, command, is_new);
     sweep_kind(
         subject,
         draft,

@@ -19,13 +19,21 @@ use sh_drafts::inner::{is_in_redirects, is_in_word};
 use sh_drafts::{Draft, Subject};
 use sh_rules::alone;
 use sh_sweeps::known::{
-    before_of, behind_action, behind_assigned, behind_operands, behind_word, operand_of, started_in,
+    behind_action, behind_assigned, behind_operands, behind_word, operand_of, started_in,
 };
+use sh_sweeps::nowhere::before_if;
 use sh_tree::{
     Action, Binary, Element, Expr, Items, ParameterOperator, Part, Redirect, Script,
     Subject as Parameter, Target, Word,
 };
+use sh_worklist::{Waiting, does_item_wait};
 use std::alloc::AllocError;
+
+/// Whether a command waits in a list.
+pub fn does_list_wait(waiting: &Waiting, list: &Script) -> bool {
+    let items = list.items.as_slice();
+    items.iter().any(|item| does_item_wait(waiting, item))
+}
 
 /// Lowers the certificate at the commands in the words of a simple command. Each word is expanded
 /// after those before it, and values and redirections after all of them.
@@ -92,6 +100,7 @@ pub fn sweep_redirections(
     levels: u32,
     number: u32,
     redirects: &[Redirect],
+    is_new: bool,
 ) -> Result<(), AllocError>
     requires ready { IsReady subject.now draft.old.certificate draft.old.probe.count }
     requires placed { IsPart subject.now (redirects_entered (at (Before number)) (redirects_from subject.now.script.now redirects.now)) }
@@ -100,7 +109,7 @@ pub fn sweep_redirections(
     if !is_in_redirects(redirects) {
         return Ok(());
     }
-    let before = before_of(subject, &draft.certificate, number);
+    let before = before_if(subject, &draft.certificate, number, is_new);
     sweep_redirects(subject, draft, levels, &before, redirects)
 }
 
@@ -337,6 +346,9 @@ fn sweep_substitution(
     requires placed { (offset : ℕ) × IsIn subject.now (λ q. part_entered q (p.Substitution offset (script_of subject.now.script.now list.now))) (knowledge_facts subject.now.names.now known.now) }
     ensures swept { IfOk result (λ unit. IsSwept subject.now draft.old.certificate draft.new.certificate draft.new.probe.count) }
 {
+    if !known.is_reached() && !does_list_wait(&draft.waiting, list) {
+        return Ok(());
+    }
     let outside = alone();
     let seen = started_in(subject, &draft.certificate, known);
     sweep_list(subject, draft, levels, &outside, FlowRule::F11, &seen, list)

@@ -1,10 +1,11 @@
 -- What is known where lists are entered, by the claims of a certificate that stays above all that
 -- keep the rules.
-use Rattle.std.proofs.Common.{◌≡◌, ◌==◌, ◌-◌, ℕ, Bool, true, false, List, take, [], ◌∷◌, length, fold, refl, sym, ap, ◌∙◌, subst, arith, true≢false}
+use Rattle.std.proofs.Common.{◌≡◌, ◌==◌, ◌-◌, ◌++◌, ℕ, Bool, true, false, List, take, [], ◌∷◌, length, fold, refl, sym, ap, ◌∙◌, subst, arith, true≢false}
 use Rattle.std.proofs.lemmas.Bool.Decides.{nat_tests}
 use Rattle.sh_tree.specs.declared.tree.Item.{Item, out-Item}
 use Rattle.sh_tree.specs.declared.tree.Command.{Command}
 use Rattle.sh_tree.specs.declared.tree.Link.{Link}
+use Rattle.sh_tree.specs.declared.tree.Link.TheVariants as link
 use Rattle.sh_tree.specs.declared.tree.Pipe.{Pipe}
 use Rattle.sh_tree.specs.Lists.{items_from}
 use Rattle.sh_tree.specs.standard.program.Trees as trees
@@ -13,8 +14,9 @@ use Rattle.sh_domain.specs.declared.knowledge.Knowledge.{Knowledge}
 use Rattle.sh_domain.specs.declared.rule.FlowRule.{FlowRule}
 use Rattle.sh_domain.specs.declared.rule.FlowRule.TheVariants.{F2}
 use Rattle.sh_domain.specs.Entries.{item_after, item_seen, items_after, link_seen, linked, pipeline_after}
-use Rattle.sh_domain.specs.Facts.{Facts}
+use Rattle.sh_domain.specs.Facts.{Facts, NotReached}
 use Rattle.sh_domain.specs.Gains.{Gains}
+use Rattle.sh_domain.proofs.OrderLemmas.{meet_first, within_nowhere, within_through}
 use Rattle.sh_domain.specs.Knowledge.{AreNumbered, knowledge_facts}
 use Rattle.sh_domain.specs.Views as views
 use Rattle.sh_domain.specs.Views.{After, Seen, Slot, at, gaining}
@@ -123,6 +125,31 @@ nothing_passed s c is e = subst (ArePassed s c c) (sym e) (record { none = λ e.
 
 pub none_passed : (s : Subject) (c : Course) (is : List Item) → (length is == 0) ≡ true → ArePassed s c c is
 none_passed s c is e = nothing_passed s c is (no_items is e)
+
+-- after a pipeline by whose status nothing is known
+module _ (s : Subject) (c : kept.Certificate) (h : AreNumbered s.names.now) (over : IsOver s c) where
+  with_others : (q r : Seen) (k : Facts) → Knows s q k → Knows s (q ++ r) k
+  with_others q r k knows other keeps = within_through _ _ _ ((knows_follow s c h over).joined q r k NotReached knows (λ o w. within_nowhere _) other keeps) (meet_first k NotReached)
+
+  pub left_after_zero : (l : Link) (b : Behind) (o p : After) → l ≡ link.AndThen → KnowsBehind s o b → KnowsBehind s (linked l o p) (record { zero = NotReached; nonzero = b.nonzero })
+  unfolding linked views.if_nonzero
+  left_after_zero l b o p e knows =
+      subst (λ m. KnowsBehind s (linked m o p) (record { zero = NotReached; nonzero = b.nonzero })) (sym e)
+      (λ other keeps. record { zero = within_nowhere _; nonzero = with_others (views.if_nonzero o) (views.if_nonzero p) b.nonzero (λ z k. (knows z k).nonzero) other keeps })
+
+  pub left_after_nonzero : (l : Link) (b : Behind) (o p : After) → l ≡ link.OrElse → KnowsBehind s o b → KnowsBehind s (linked l o p) (record { zero = b.zero; nonzero = NotReached })
+  unfolding linked views.if_zero
+  left_after_nonzero l b o p e knows =
+      subst (λ m. KnowsBehind s (linked m o p) (record { zero = b.zero; nonzero = NotReached })) (sym e)
+      (λ other keeps. record { zero = with_others (views.if_zero o) (views.if_zero p) b.zero (λ z k. (knows z k).zero) other keeps; nonzero = within_nowhere _ })
+
+-- items after which nothing is known
+pub left_out : (s : Subject) (old new : Course) (is : List Item) → new.by ≡ F2 → ((o : After) → KnowsBehind s o (known_behind s new.behind)) → (length is == 0) ≡ false → ArePassed s old new is
+left_out s old new is by nothing some = record {
+  none = λ e. absurd (true≢false (ap (λ (js : List Item). length js == 0) (sym e) ∙ some));
+  by = λ i rest e. by;
+  behind = λ o knows. nothing _;
+}
 
 pub none_between : (n : ℕ) (is : List Item) → take (n - n) is ≡ []
 none_between n is = let same : n - n ≡ 0 = omega arith in ap (λ k. take k is) same ∙ front is

@@ -24,6 +24,7 @@ use Rattle.sh_domain.specs.declared.rule.FlowRule.{FlowRule}
 use Rattle.sh_domain.specs.declared.rule.FlowRule.TheVariants.{F1, F2, F3, F6, F7, F8, F9, F10, F11, F12, F13}
 use Rattle.sh_domain.specs.Entries as e
 use Rattle.sh_domain.specs.Entries.{Around, Entered, behind_redirects}
+use Rattle.sh_domain.proofs.OrderLemmas.{within_nowhere}
 use Rattle.sh_domain.specs.Facts.{Facts, NotReached, meet}
 use Rattle.sh_domain.specs.Gains.{word_gains}
 use Rattle.sh_domain.specs.Knowledge.{AreNumbered, among, knowledge_facts}
@@ -256,6 +257,20 @@ module _ (s : Subject) where
         part = last_part s (e.patterns_entered here.seen (words_from s.script.now (out-Clause c).patterns) ++ e.items_entered F9 y (Both q) (script_of s.script.now (out-Clause c).body)) (e.clauses_entered y here.seen (e.falls (out-Clause c).end o) (clauses_from s.script.now cs)) here.part;
         knows = here.knows;
         knows_fallen = subst (Knows s (e.falls (out-Clause c).end o)) (sym left) (falls_led (setting_by s x) (Knows s) (knows_follow s x h over) (out-Clause c).end o b (stands_of s o b (behind q met)));
+      }
+
+  -- or if what is known after it is left out
+  pub clauses_idle : (y : Around) (k fallen : Facts) (c : Clause) (cs : List Clause) → AreClauses s y k fallen (clauses_from s.script.now (c ∷ cs)) → AreClauses s y k NotReached (clauses_from s.script.now cs)
+  unfolding e.items_entered clauses_from
+  clauses_idle y k fallen c cs here =
+      let q : Seen = here.seen ++ here.falls in
+      let o : After = e.items_after (Both q) (script_of s.script.now (out-Clause c).body) in
+      record {
+        seen = here.seen;
+        falls = e.falls (out-Clause c).end o;
+        part = last_part s (e.patterns_entered here.seen (words_from s.script.now (out-Clause c).patterns) ++ e.items_entered F9 y (Both q) (script_of s.script.now (out-Clause c).body)) (e.clauses_entered y here.seen (e.falls (out-Clause c).end o) (clauses_from s.script.now cs)) here.part;
+        knows = here.knows;
+        knows_fallen = λ other keeps. within_nowhere _;
       }
 
   -- where a walk begins in it

@@ -201,6 +201,9 @@ pub fn behind_word(
     ensures { (q : Seen) → Knows subject.now q (knowledge_facts subject.now.names.now known.now)
         → Knows subject.now (gaining (word_gains (parts_from subject.now.script.now word.now.parts)) q) (knowledge_facts subject.now.names.now result) }
 {
+    if !known.is_reached() {
+        return Knowledge::NotReached;
+    }
     let claims = claims_of(subject, certificate);
     let mut behind = *known;
     gain_word(&claims, word, &mut behind);

@@ -10,6 +10,7 @@ pub mod known;
 pub mod laws;
 mod lower;
 mod news;
+pub mod nowhere;
 mod plain;
 mod sides;
 mod slots;

@@ -31,7 +31,7 @@ impl News {
     /// What of it is new after an item in which nothing fell. A process that goes on beside the
     /// shell sets `!`.
     pub fn after(self, item: &Item) -> News {
-        if self == News::Nothing || item.background || is_settled(item) {
+        if self == News::Nothing || item.background || !is_of_processes(item) {
             News::Nothing
         } else {
             News::Job

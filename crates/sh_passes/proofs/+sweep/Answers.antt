@@ -37,6 +37,7 @@ use Rattle.sh_drafts.proofs.ReadyLemmas.{names_numbered, ready_again, swept_more
 use Rattle.sh_sweeps.proofs.WordLemmas.{Along, along_first, along_no_operands, along_no_parts, along_operands, along_parts, arithmetic_gained, arithmetic_placed, assigned_gained, assigned_placed, both_gained, case_word, chain_first, chain_gained, chain_rest, choice_condition, choice_gained, choice_no, choice_yes, clause_patterns, double_gained, double_placed, element_as, elements_first, elements_placed, expanded_gained, expanded_placed, expansion_gained, expansion_placed, expression_as, expression_gained, file_gained, file_placed, for_words_placed, gained_nowhere, here_gained, here_placed, if_ok, kind_as, kind_placed, link_expression, listed_placed, literal_gained, nothing_gained, operand_inside, operand_next, operand_placed, operands_next, parenthesis_gained, parenthesis_placed, part_as, part_gained, part_placed, pattern_placed, patterns_next, pieces_next, plain_gained, redirect_placed, redirection_next, redirection_placed, redirections_placed, redirects_next, remove_placed, signed_gained, signed_placed, substitution_placed, use_gained, use_placed, value_next, value_placed, word_placed, words_next}
 use Rattle.sh_passes.proofs.+sweep.Goals as goal
 use Rattle.sh_passes.proofs.+sweep.Answers.Bodies as bodies
+use Rattle.sh_passes.proofs.+sweep.Answers.Links as links
 use Rattle.sh_passes.proofs.+sweep.Answers.Choices as choices
 use Rattle.sh_passes.proofs.+sweep.Answers.Words as words
 
@@ -82,8 +83,8 @@ sweep::sweep_and_or-sweep_pipe-requires t c =
     let placed : IsPipe s c.args.by y (knowledge_facts s.names.now c.args.known.now) (out-AndOr c.args.list.now).first = pipe_placed s c.args.by y (knowledge_facts s.names.now c.args.known.now) c.args.list.now c.requires.placed in
     search std_rules
 
-pub sweep::sweep_and_or-behind_pipe-behind-requires : goal.sweep::sweep_and_or-behind_pipe-behind-requires
-sweep::sweep_and_or-behind_pipe-behind-requires t c =
+pub sweep::sweep_and_or-pipe_if-behind-requires : goal.sweep::sweep_and_or-pipe_if-behind-requires
+sweep::sweep_and_or-pipe_if-behind-requires t c =
     let s = c.args.subject.now in
     let ready : IsReady s c.sweep_pipe.new.draft.certificate c.sweep_pipe.new.draft.probe.count = ready_again s _ _ _ _ c.requires.ready c.in_ok-sweep_pipe.ensures.swept in
     search std_rules
@@ -94,9 +95,9 @@ sweep::sweep_and_or-sweep_links-requires t c =
     let r = c.requires.ready in
     let y = walks.around s.script.now c.args.around.now in
     let ready : IsReady s c.sweep_pipe.new.draft.certificate c.sweep_pipe.new.draft.probe.count = ready_again s _ _ _ _ r c.in_ok-sweep_pipe.ensures.swept in
-    let placed : AreLinks s y (known_behind s c.behind_pipe-behind.result) c.as_slice-links.result.now =
-    subst (AreLinks s y (known_behind s c.behind_pipe-behind.result)) (sym c.as_slice-links.ensures)
-    (links_placed s c.args.by y (knowledge_facts s.names.now c.args.known.now) c.args.list.now (known_behind s c.behind_pipe-behind.result) c.behind_pipe-behind.ensures c.requires.placed) in
+    let placed : AreLinks s y (known_behind s c.pipe_if-behind.result) c.as_slice-links.result.now =
+    subst (AreLinks s y (known_behind s c.pipe_if-behind.result)) (sym c.as_slice-links.ensures)
+    (links_placed s c.args.by y (knowledge_facts s.names.now c.args.known.now) c.args.list.now (known_behind s c.pipe_if-behind.result) c.pipe_if-behind.ensures c.requires.placed) in
     search std_rules
 
 pub choices::sweep_branch-sweep_items-requires : goal.choices::sweep_branch-sweep_items-requires
@@ -107,6 +108,9 @@ choices::sweep_branch-sweep_list-requires = choices.sweep_branch-sweep_list-requ
 
 pub choices::sweep_branch-returns-clause-swept : goal.choices::sweep_branch-returns-clause-swept
 choices::sweep_branch-returns-clause-swept = choices.sweep_branch-returns-clause-swept
+
+pub choices::sweep_branch-returns-then-not-does_branch_wait-clause-passed : goal.choices::sweep_branch-returns-then-not-does_branch_wait-clause-passed
+choices::sweep_branch-returns-then-not-does_branch_wait-clause-passed = choices.sweep_branch-returns-then-not-does_branch_wait-clause-passed
 
 pub choices::sweep_branch-returns-clause-passed : goal.choices::sweep_branch-returns-clause-passed
 choices::sweep_branch-returns-clause-passed = choices.sweep_branch-returns-clause-passed
@@ -156,24 +160,6 @@ sweep::sweep_for-sweep_list-requires t c =
     subst (λ z. IsList s F8 z k (script_of s.script.now c.args.body.now)) (sym (c.in_loop-inner.ensures s.script.now))
     (for_placed s y c.args.number w.0 k (text_of s.script.now c.args.name) w.1 (script_of s.script.now c.args.body.now) w.2 c.turn_of-turn.ensures) in
     search std_rules
-
-pub sweep::sweep_link-sweep_pipe-requires : goal.sweep::sweep_link-sweep_pipe-requires
-unfolding facts_in
-sweep::sweep_link-sweep_pipe-requires t c =
-    let s = c.args.subject.now in
-    let r = c.requires.ready in
-    let y = walks.around s.script.now c.args.around.now in
-    let b = known_behind s c.args.behind.now in
-    let k = knowledge_facts s.names.now c.at_link.result.now in
-    let placed : IsPipe s F3 y k c.args.link.now.1 = link_placed s y b k c.args.link.now c.requires.placed.0 (c.at_link.ensures (setting_by s c.args.draft.now.certificate)) _ (names_numbered s _ _ r) r.over c.requires.placed.1 in
-    search std_rules
-
-pub sweep::sweep_link-returns-clause-passed : goal.sweep::sweep_link-returns-clause-passed
-sweep::sweep_link-returns-clause-passed t c =
-    λ others here.
-    let s = c.args.subject.now in
-    let y = walks.around s.script.now c.args.around.now in
-    links_next s y (known_behind s c.args.behind.now) _ c.args.link.now others c.pass_link.ensures here
 
 pub sweep::sweep_list-sweep_items-requires : goal.sweep::sweep_list-sweep_items-requires
 unfolding facts_in
@@ -389,9 +375,9 @@ sweep::sweep_inside-sweep_kind-requires t c =
     let r = c.requires.ready in
     let y = walks.around s.script.now c.args.around.now in
     let m = c.args.command.now in
-    let k = knowledge_facts s.names.now c.inside_of-inside.result in
+    let k = knowledge_facts s.names.now c.inside_if-inside.result in
     let ready : IsReady s c.sweep_redirections.new.draft.certificate c.sweep_redirections.new.draft.probe.count = ready_again s _ _ _ _ r c.in_ok-sweep_redirections.ensures.swept in
-    let placed : IsKind s y (out-Command m).number k (out-Command m).kind = kind_placed s y k m c.requires.placed c.inside_of-inside.ensures in
+    let placed : IsKind s y (out-Command m).number k (out-Command m).kind = kind_placed s y k m c.requires.placed c.inside_if-inside.ensures in
     search std_rules
 
 pub choices::sweep_case-pass_word-requires : goal.choices::sweep_case-pass_word-requires
@@ -628,6 +614,9 @@ words::pass_part-returns-then-levels-eq0-clause-gained = words.pass_part-returns
 pub words::pass_expression-returns-then-levels-eq0-clause-gained : goal.words::pass_expression-returns-then-levels-eq0-clause-gained
 words::pass_expression-returns-then-levels-eq0-clause-gained = words.pass_expression-returns-then-levels-eq0-clause-gained
 
+pub choices::sweep_clause-returns-then-is_idle-clause-passed : goal.choices::sweep_clause-returns-then-is_idle-clause-passed
+choices::sweep_clause-returns-then-is_idle-clause-passed = choices.sweep_clause-returns-then-is_idle-clause-passed
+
 pub choices::sweep_clause-returns-clause-swept : goal.choices::sweep_clause-returns-clause-swept
 choices::sweep_clause-returns-clause-swept = choices.sweep_clause-returns-clause-swept
 
@@ -681,30 +670,6 @@ sweep::sweep_items-returns-clause-behind t c =
     goes_last s o (known_behind s c.loop-place.course.behind) c.args.items.now
     (subst (GoesOn s o (known_behind s c.loop-place.course.behind) c.args.items.now) (drop_all c.loop-place.place c.args.items.now c.loop-place-test.false) (c.loop-place.invariant.goes o k))
 
-pub sweep::sweep_links-link_or_pass-requires : goal.sweep::sweep_links-link_or_pass-requires
-sweep::sweep_links-link_or_pass-requires t c =
-    let s = c.args.subject.now in
-    let r = c.requires.ready in
-    let y = walks.around s.script.now c.args.around.now in
-    let ready : IsReady s c.loop-link.draft.certificate c.loop-link.draft.probe.count = ready_again s _ _ _ _ r c.loop-link.invariant.swept in
-    let here : AreLinks s y (known_behind s c.loop-link.behind) (c.link-item.result ∷ drop (c.loop-link.link-index + 1) c.args.links.now) = subst (AreLinks s y (known_behind s c.loop-link.behind)) (at_index c.args.links.now c.loop-link.link-index c.link-item.result c.loop-link-test.true c.link-item.is) c.loop-link.invariant.placed in
-    let placed : (others : List (Link × Pipe)) × AreLinks s y (known_behind s c.loop-link.behind) (c.link-item.result ∷ others) = (_, here) in
-    search std_rules
-
-pub sweep::sweep_links-loop-link-preserved : goal.sweep::sweep_links-loop-link-preserved
-sweep::sweep_links-loop-link-preserved t c =
-    let s = c.args.subject.now in
-    let y = walks.around s.script.now c.args.around.now in
-    let here : AreLinks s y (known_behind s c.loop-link.behind) (c.link-item.result ∷ drop (c.loop-link.link-index + 1) c.args.links.now) = subst (AreLinks s y (known_behind s c.loop-link.behind)) (at_index c.args.links.now c.loop-link.link-index c.link-item.result c.loop-link-test.true c.link-item.is) c.loop-link.invariant.placed in
-    record { swept = swept_more s _ _ _ _ _ c.loop-link.invariant.swept c.in_ok-is_new.ensures.swept; placed = c.in_ok-is_new.ensures.passed _ here }
-
-pub sweep::link_or_pass-returns-then-not-does_pipe_wait-clause-passed : goal.sweep::link_or_pass-returns-then-not-does_pipe_wait-clause-passed
-sweep::link_or_pass-returns-then-not-does_pipe_wait-clause-passed t c =
-    λ others here.
-    let s = c.args.subject.now in
-    let y = walks.around s.script.now c.args.around.now in
-    links_next s y (known_behind s c.args.behind.now) _ c.args.link.now others c.pass_link.ensures here
-
 pub sweep::sweep_simple-sweep_held-requires : goal.sweep::sweep_simple-sweep_held-requires
 sweep::sweep_simple-sweep_held-requires t c =
     let s = c.args.subject.now in
@@ -730,10 +695,37 @@ sweep::sweep_simple-returns t c =
     let s = c.args.subject.now in
     record { swept = swept_more s _ _ _ _ _ (swept_more s _ _ _ _ _ (swept_more s _ _ _ _ _ c.in_ok-sweep_held.ensures.swept c.in_ok-lower_behind.ensures.swept) c.in_ok-sweep_called.ensures.swept) c.in_ok-lower_behind-2.ensures.swept }
 
+pub sweep::sweep_compound-sweep_again-requires : goal.sweep::sweep_compound-sweep_again-requires
+sweep::sweep_compound-sweep_again-requires t c =
+    let s = c.args.subject.now in
+    let y = walks.around s.script.now c.args.around.now in
+    let ready : IsReady s c.sweep_rounds.new.draft.certificate c.sweep_rounds.new.draft.probe.count = ready_again s _ _ _ _ c.requires.ready c.in_ok-sweep_rounds.ensures.swept in
+    let placed : IsInside s y c.args.command.now = inside_placed s c.args.by y (knowledge_facts s.names.now c.args.known.now) c.args.command.now c.requires.placed in
+    search std_rules
+
+pub sweep::sweep_compound-lower_behind-requires-clause-ready : goal.sweep::sweep_compound-lower_behind-requires-clause-ready
+sweep::sweep_compound-lower_behind-requires-clause-ready t c =
+    let s = c.args.subject.now in
+    ready_again s _ _ _ _ (ready_again s _ _ _ _ c.requires.ready c.in_ok-sweep_rounds.ensures.swept) c.in_ok-sweep_again.ensures.swept
+
+pub sweep::sweep_compound-returns-then-eq : goal.sweep::sweep_compound-returns-then-eq
+sweep::sweep_compound-returns-then-eq t c =
+    let s = c.args.subject.now in
+    record { swept = swept_more s _ _ _ _ _ c.in_ok-sweep_rounds.ensures.swept c.in_ok-sweep_again.ensures.swept }
+
 pub sweep::sweep_compound-returns : goal.sweep::sweep_compound-returns
 sweep::sweep_compound-returns t c =
     let s = c.args.subject.now in
-    record { swept = swept_more s _ _ _ _ _ c.in_ok-sweep_rounds.ensures.swept c.in_ok-lower_behind.ensures.swept }
+    record { swept = swept_more s _ _ _ _ _ (swept_more s _ _ _ _ _ c.in_ok-sweep_rounds.ensures.swept c.in_ok-sweep_again.ensures.swept) c.in_ok-lower_behind.ensures.swept }
+
+pub sweep::sweep_again-sweep_inside-requires : goal.sweep::sweep_again-sweep_inside-requires
+sweep::sweep_again-sweep_inside-requires t c =
+    let s = c.args.subject.now in
+    let ready : IsReady s c.loop-round.draft.certificate c.loop-round.draft.probe.count = ready_again s _ _ _ _ c.requires.ready c.loop-round.invariant.swept in
+    search std_rules
+
+pub sweep::sweep_again-loop-round-preserved : goal.sweep::sweep_again-loop-round-preserved
+sweep::sweep_again-loop-round-preserved t c = record { swept = swept_more c.args.subject.now _ _ _ _ _ c.loop-round.invariant.swept c.in_ok-sweep_inside.ensures.swept }
 
 pub sweep::sweep_simple-returns-then-not-is_news : goal.sweep::sweep_simple-returns-then-not-is_news
 sweep::sweep_simple-returns-then-not-is_news t c = record { swept = swept_more c.args.subject.now _ _ _ _ _ c.in_ok-sweep_held.ensures.swept c.in_ok-lower_behind.ensures.swept }
@@ -797,3 +789,20 @@ bodies::sweep_body-place_in-other-requires = bodies.sweep_body-place_in-other-re
 
 pub bodies::sweep_body-returns : goal.bodies::sweep_body-returns
 bodies::sweep_body-returns = bodies.sweep_body-returns
+
+-- Pipelines after `&&` and `||`
+
+pub links::enter_link-sweep_pipe-requires : goal.links::enter_link-sweep_pipe-requires
+links::enter_link-sweep_pipe-requires = links.enter_link-sweep_pipe-requires
+
+pub links::sweep_links-link_or_pass-requires : goal.links::sweep_links-link_or_pass-requires
+links::sweep_links-link_or_pass-requires = links.sweep_links-link_or_pass-requires
+
+pub links::sweep_links-loop-link-preserved : goal.links::sweep_links-loop-link-preserved
+links::sweep_links-loop-link-preserved = links.sweep_links-loop-link-preserved
+
+pub links::link_or_pass-returns-then-not-does_pipe_wait-clause-passed : goal.links::link_or_pass-returns-then-not-does_pipe_wait-clause-passed
+links::link_or_pass-returns-then-not-does_pipe_wait-clause-passed = links.link_or_pass-returns-then-not-does_pipe_wait-clause-passed
+
+pub links::link_or_pass-returns-clause-passed : goal.links::link_or_pass-returns-clause-passed
+links::link_or_pass-returns-clause-passed = links.link_or_pass-returns-clause-passed

@@ -23,8 +23,8 @@ invariant-sweep::sweep_items-loop-place l = record {
 abbrev pub decreases-sweep::sweep_items-loop-place : goal.decreases-sweep::sweep_items-loop-place
 decreases-sweep::sweep_items-loop-place l = length l.items - l.place
 
-abbrev pub invariant-sweep::sweep_links-loop-link : goal.invariant-sweep::sweep_links-loop-link
-invariant-sweep::sweep_links-loop-link l = record {
+abbrev pub invariant-links::sweep_links-loop-link : goal.invariant-links::sweep_links-loop-link
+invariant-links::sweep_links-loop-link l = record {
   swept : IsSwept l.subject l.initial.draft.certificate l.draft.certificate l.draft.probe.count;
   placed : AreLinks l.subject (walks.around l.subject.script.now l.around) (known_behind l.subject l.behind) (drop l.link-index l.links);
 }
@@ -87,6 +87,9 @@ invariant-words::pass_operands-loop-link l = record {
   along : (q : Seen) → Knows l.subject q (knowledge_facts l.subject.names.now l.initial.known) → Along l.subject q (knowledge_facts l.subject.names.now l.known) (operands_gains (operands_from l.subject.script.now l.rest)) (operands_gains (operands_from l.subject.script.now (drop l.link-index l.rest)));
 }
 
+abbrev pub invariant-sweep::sweep_again-loop-round : goal.invariant-sweep::sweep_again-loop-round
+invariant-sweep::sweep_again-loop-round l = record { swept : IsSwept l.subject l.initial.draft.certificate l.draft.certificate l.draft.probe.count }
+
 abbrev pub invariant-rounds::sweep_rounds-loop-round : goal.invariant-rounds::sweep_rounds-loop-round
 invariant-rounds::sweep_rounds-loop-round l = record { swept : IsSwept l.subject l.initial.draft.certificate l.draft.certificate l.draft.probe.count }
 
@@ -104,6 +107,9 @@ decreases-sweep::sweep_simple l = l.levels * 64 + 40
 
 abbrev pub decreases-sweep::sweep_compound : goal.decreases-sweep::sweep_compound
 decreases-sweep::sweep_compound l = l.levels * 64 + 40
+
+abbrev pub decreases-sweep::sweep_again : goal.decreases-sweep::sweep_again
+decreases-sweep::sweep_again l = l.levels * 64 + 39
 
 abbrev pub decreases-rounds::sweep_rounds : goal.decreases-rounds::sweep_rounds
 decreases-rounds::sweep_rounds l = l.levels * 64 + 39
@@ -225,8 +231,8 @@ decreases-words::pass_target l = l.levels * 64 + 10
 abbrev pub decreases-words::sweep_words : goal.decreases-words::sweep_words
 decreases-words::sweep_words l = l.levels * 64 + 10
 
-abbrev pub decreases-sweep::sweep_links : goal.decreases-sweep::sweep_links
-decreases-sweep::sweep_links l = l.levels * 64 + 10
+abbrev pub decreases-links::sweep_links : goal.decreases-links::sweep_links
+decreases-links::sweep_links l = l.levels * 64 + 10
 
 abbrev pub decreases-words::pass_word : goal.decreases-words::pass_word
 decreases-words::pass_word l = l.levels * 64 + 8
@@ -240,11 +246,11 @@ decreases-words::pass_action l = l.levels * 64 + 8
 abbrev pub decreases-words::open_expression : goal.decreases-words::open_expression
 decreases-words::open_expression l = l.levels * 64 + 8
 
-abbrev pub decreases-sweep::link_or_pass : goal.decreases-sweep::link_or_pass
-decreases-sweep::link_or_pass l = l.levels * 64 + 9
+abbrev pub decreases-links::link_or_pass : goal.decreases-links::link_or_pass
+decreases-links::link_or_pass l = l.levels * 64 + 9
 
-abbrev pub decreases-sweep::sweep_link : goal.decreases-sweep::sweep_link
-decreases-sweep::sweep_link l = l.levels * 64 + 8
+abbrev pub decreases-links::enter_link : goal.decreases-links::enter_link
+decreases-links::enter_link l = l.levels * 64 + 8
 
 abbrev pub decreases-words::pass_chain : goal.decreases-words::pass_chain
 decreases-words::pass_chain l = l.levels * 64 + 6

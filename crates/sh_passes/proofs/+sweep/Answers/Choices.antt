@@ -12,12 +12,13 @@ use Rattle.sh_domain.specs.Facts.{NotReached, meet}
 use Rattle.sh_domain.specs.Gains.{word_gains}
 use Rattle.sh_domain.specs.Knowledge.{knowledge_facts}
 use Rattle.sh_domain.specs.Views.{gaining}
+use Rattle.sh_domain.proofs.OrderLemmas.{within_nowhere}
 use Rattle.sh_rules.specs.Behind.{both}
 use Rattle.sh_rules.specs.Walks as walks
 use Rattle.sh_rules.specs.Walks.{facts_in}
 use Rattle.sh_sweeps.specs.Sweeps.{AreBranches, AreClauses, AreItems, IsIn, IsList, IsWord, known_behind, setting_by}
 use Rattle.sh_drafts.specs.Ready.{IsReady}
-use Rattle.sh_sweeps.proofs.PlacedLemmas.{at_index, begun_at, branch_body, branch_condition, branches_next, branches_placed, case_placed, clause_list, clauses_next, clauses_placed, else_placed, known_after}
+use Rattle.sh_sweeps.proofs.PlacedLemmas.{at_index, begun_at, branch_body, branch_condition, branches_next, branches_placed, case_placed, clause_list, clauses_idle, clauses_next, clauses_placed, else_placed, known_after}
 use Rattle.sh_drafts.proofs.ReadyLemmas.{names_numbered, ready_again, swept_more, swept_none}
 use Rattle.sh_sweeps.proofs.WordLemmas.{case_word, clause_patterns, if_ok, kind_as}
 use Rattle.sh_passes.proofs.+sweep.Goals as goal
@@ -90,6 +91,14 @@ sweep_branch-returns-clause-passed t c =
     let begun : known_behind s c.begun-course.result.behind ≡ both k = c.begun-course.ensures.behind (setting_by s c.args.draft.now.certificate) in
     let after = known_after s k c.begun-course.result c.sweep_items.new.course (out-Branch c.args.branch.now).condition c.as_slice.result.now begun c.as_slice.ensures c.in_ok-sweep_items.ensures.behind in
     branches_next s y k _ c.args.branch.now others z (λ q w other keeps. (after q w other keeps).nonzero) here
+
+pub sweep_branch-returns-then-not-does_branch_wait-clause-passed : goal.choices::sweep_branch-returns-then-not-does_branch_wait-clause-passed
+unfolding knowledge_facts
+sweep_branch-returns-then-not-does_branch_wait-clause-passed t c =
+    λ others z here.
+    let s = c.args.subject.now in
+    let y = walks.around s.script.now c.args.around.now in
+    branches_next s y _ NotReached c.args.branch.now others z (λ q w other keeps. within_nowhere _) here
 
 pub sweep_branches-sweep_branch-requires : goal.choices::sweep_branches-sweep_branch-requires
 sweep_branches-sweep_branch-requires t c =
@@ -205,6 +214,16 @@ sweep_clause-sweep_patterns-requires t c =
     let placed : IsIn s (λ q. entries.patterns_entered q (words_from s.script.now c.as_slice.result.now)) k =
     subst (λ ws. IsIn s (λ q. entries.patterns_entered q (words_from s.script.now ws)) k) (sym c.as_slice.ensures) first in
     search std_rules
+
+pub sweep_clause-returns-then-is_idle-clause-passed : goal.choices::sweep_clause-returns-then-is_idle-clause-passed
+unfolding knowledge_facts
+sweep_clause-returns-then-is_idle-clause-passed t c =
+    λ others here.
+    let s = c.args.subject.now in
+    let y = walks.around s.script.now c.args.around.now in
+    let k = knowledge_facts s.names.now c.args.behind.now in
+    let old = knowledge_facts s.names.now c.args.fallen.now in
+    clauses_idle s y k old c.args.clause.now others here
 
 pub sweep_clause-returns-clause-swept : goal.choices::sweep_clause-returns-clause-swept
 sweep_clause-returns-clause-swept t c = if_ok c.sweep_body.result _ _ (λ u h. swept_more c.args.subject.now _ _ _ _ _ c.in_ok-sweep_patterns.ensures.swept h) c.sweep_body.ensures.swept

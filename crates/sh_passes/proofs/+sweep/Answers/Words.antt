@@ -80,8 +80,8 @@ pub sweep_redirections-sweep_redirects-requires : goal.words::sweep_redirections
 sweep_redirections-sweep_redirects-requires t c =
     let s = c.args.subject.now in
     let r = c.requires.ready in
-    let k = knowledge_facts s.names.now c.before_of-before.result in
-    let placed : IsIn s (λ q. entries.redirects_entered q (redirects_from s.script.now c.args.redirects.now)) k = record { seen = at (Before c.args.number); part = c.requires.placed; knows = c.before_of-before.ensures } in
+    let k = knowledge_facts s.names.now c.before_if-before.result in
+    let placed : IsIn s (λ q. entries.redirects_entered q (redirects_from s.script.now c.args.redirects.now)) k = record { seen = at (Before c.args.number); part = c.requires.placed; knows = c.before_if-before.ensures } in
     search std_rules
 
 pub sweep_redirects-pass_target-requires : goal.words::sweep_redirects-pass_target-requires

@@ -1,0 +1,95 @@
+//! A sweep of the search over the pipelines after `&&` and `||` (XCU 2.9.3).
+ghost use Rattle.std.specs.Prelude.{◌∷◌, List, IfOk};
+ghost use Rattle.sh_tree.specs.declared.tree.Link as list_link;
+ghost use Rattle.sh_tree.specs.declared.tree.Pipe as pipeline;
+ghost use Rattle.sh_rules.specs.Walks as walks;
+ghost use Rattle.sh_sweeps.specs.Sweeps.{AreLinks, known_behind};
+ghost use Rattle.sh_drafts.specs.Ready.{IsReady, IsSwept};
+
+use crate::sweep::sweep_pipe;
+use sh_domain::FlowRule;
+use sh_drafts::{Draft, Subject};
+use sh_rules::{Around, Behind};
+use sh_sweeps::nowhere::link_if;
+use sh_tree::{Link, Pipe};
+use sh_worklist::does_pipe_wait;
+use std::alloc::AllocError;
+
+/// Lowers the certificate at the pipelines after `&&` or `||`. Before one at which nothing is new,
+/// what is known is left out.
+///
+/// # Errors
+///
+/// If a growth was refused.
+#[cycle(sweep)]
+pub fn sweep_links(
+    subject: &Subject<'_>,
+    draft: &mut Draft,
+    levels: u32,
+    around: &Around<'_>,
+    behind: &mut Behind,
+    links: &[(Link, Pipe)],
+) -> Result<(), AllocError>
+    requires ready { IsReady subject.now draft.old.certificate draft.old.probe.count }
+    requires placed { AreLinks subject.now (walks.around subject.now.script.now around.now) (known_behind subject.now behind.old) links.now }
+    ensures swept { IfOk result (λ unit. IsSwept subject.now draft.old.certificate draft.new.certificate draft.new.probe.count) }
+{
+    for link in links {
+        link_or_pass(subject, draft, levels, around, behind, link)?;
+    }
+    Ok(())
+}
+
+// Lowers the certificate at the pipeline after `&&` or `||`, if something is new to it or a command
+// of it waits, and goes on after it.
+#[cycle(sweep)]
+fn link_or_pass(
+    subject: &Subject<'_>,
+    draft: &mut Draft,
+    levels: u32,
+    around: &Around<'_>,
+    behind: &mut Behind,
+    link: &(Link, Pipe),
+) -> Result<(), AllocError>
+    requires ready { IsReady subject.now draft.old.certificate draft.old.probe.count }
+    requires placed { (others : List (list_link.Link × pipeline.Pipe)) × AreLinks subject.now (walks.around subject.now.script.now around.now) (known_behind subject.now behind.old) (link.now ∷ others) }
+    ensures swept { IfOk result (λ unit. IsSwept subject.now draft.old.certificate draft.new.certificate draft.new.probe.count) }
+    ensures passed { IfOk result (λ unit. (others : List (list_link.Link × pipeline.Pipe))
+        → AreLinks subject.now (walks.around subject.now.script.now around.now) (known_behind subject.now behind.old) (link.now ∷ others)
+        → AreLinks subject.now (walks.around subject.now.script.now around.now) (known_behind subject.now behind.new) others) }
+{
+    if !behind.at_link(link.0).is_reached() && !does_pipe_wait(&draft.waiting, &link.1) {
+        link_if(subject, &draft.certificate, behind, link, false);
+        return Ok(());
+    }
+    let before = draft.lowered;
+    enter_link(subject, draft, levels, around, &*behind, link)?;
+    let is_new = draft.lowered != before;
+    link_if(subject, &draft.certificate, behind, link, is_new);
+    Ok(())
+}
+
+// Lowers the certificate at the pipeline after `&&` or `||`.
+#[cycle(sweep)]
+fn enter_link(
+    subject: &Subject<'_>,
+    draft: &mut Draft,
+    levels: u32,
+    around: &Around<'_>,
+    behind: &Behind,
+    link: &(Link, Pipe),
+) -> Result<(), AllocError>
+    requires ready { IsReady subject.now draft.old.certificate draft.old.probe.count }
+    requires placed { (others : List (list_link.Link × pipeline.Pipe)) × AreLinks subject.now (walks.around subject.now.script.now around.now) (known_behind subject.now behind.now) (link.now ∷ others) }
+    ensures swept { IfOk result (λ unit. IsSwept subject.now draft.old.certificate draft.new.certificate draft.new.probe.count) }
+{
+    sweep_pipe(
+        subject,
+        draft,
+        levels,
+        FlowRule::F3,
+        around,
+        behind.at_link(link.0),
+        &link.1,
+    )
+}
