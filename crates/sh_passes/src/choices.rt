@@ -113,15 +113,8 @@ fn sweep_branch(
         branch.condition.items.as_slice(),
     )?;
     let zero = course.behind.zero;
-    sweep_list(
-        subject,
-        draft,
-        levels,
-        around,
-        FlowRule::F6,
-        &zero,
-        &branch.body,
-    )?;
+    let body = &branch.body;
+    sweep_list(subject, draft, levels, around, FlowRule::F6, &zero, body)?;
     *known = course.behind.nonzero;
     Ok(())
 }

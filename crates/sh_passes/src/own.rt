@@ -106,6 +106,14 @@ fn is_own(function: u16, target: Target, index: u16) -> bool {
         && !target.place.part.is_of_function()
 }
 
+/// Whether some run comes to a command, by what is claimed before it: a hint.
+pub fn is_entered(draft: &Draft, command: &Command) -> bool {
+    let index = index_of(command);
+    let part = Part::Before;
+    let before = facts_at(&draft.certificate, Place { part, index });
+    matches!(before, Some(Facts::Known { .. }))
+}
+
 // Whether a function is entered here, and was not yet: a hint.
 fn is_unentered(draft: &Draft, place: Place) -> bool {
     place.part == Part::Entered

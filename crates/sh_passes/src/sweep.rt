@@ -19,17 +19,14 @@ ghost use Rattle.sh_drafts.specs.Ready.{IsReady, IsSwept};
 use crate::bodies::{is_called_again, sweep_called};
 use crate::choices::{sweep_case, sweep_cond};
 use crate::links::sweep_links;
-use crate::own::{lower_behind, lower_command};
+use crate::own::{is_entered, lower_behind, lower_command};
 use crate::rounds::sweep_rounds;
 use crate::words::{sweep_elements, sweep_for_words, sweep_redirections};
-use sh_domain::{Facts, FlowRule, Knowledge};
+use sh_domain::{FlowRule, Knowledge};
 use sh_drafts::inner::is_in_elements;
-use sh_drafts::kept::facts_at;
-use sh_drafts::{Draft, Part, Place, Subject, look};
+use sh_drafts::{Draft, Subject, look};
 use sh_rules::{Around, Course, alone, begun, in_function, meet};
-use sh_sweeps::known::{
-    entry_of, head_of, pass_all, pass_on, process_of, started_in, turn_of,
-};
+use sh_sweeps::known::{entry_of, head_of, pass_all, pass_on, process_of, started_in, turn_of};
 use sh_sweeps::nowhere::{inside_if, leave_all, leave_item, pipe_if};
 use sh_sweeps::{News, carry_over, lower_before};
 use sh_tree::{AndOr, Command, Item, Kind, LoopKind, Pipe, Script, Span};
@@ -141,14 +138,17 @@ fn sweep_or_pass(
         return Ok(news.after(item));
     }
     let before = draft.lowered;
-    sweep_item(subject, draft, levels, around, course, item)?;
-    if draft.lowered != before {
-        return Ok(News::Anything);
-    }
-    Ok(news.after(item))
+    enter_item(subject, draft, levels, around, &*course, item)?;
+    let news = if draft.lowered == before {
+        news.after(item)
+    } else {
+        News::Anything
+    };
+    pass_by(subject, &*draft, course, news, item);
+    Ok(news)
 }
 
-// Goes on after an item in which none waits, and to which what is new is nothing new.
+// Goes on after an item, if this is new after it.
 fn pass_by(subject: &Subject<'_>, draft: &Draft, course: &mut Course, news: News, item: &Item)
     requires { IsReady subject.now draft.now.certificate draft.now.probe.count }
     ensures { IsPassed subject.now course.old course.new item.now }
@@ -158,26 +158,6 @@ fn pass_by(subject: &Subject<'_>, draft: &Draft, course: &mut Course, news: News
     } else {
         pass_on(subject, &draft.certificate, course, item);
     }
-}
-
-// Lowers the certificate at the commands of an item, and goes on after it.
-#[cycle(sweep)]
-fn sweep_item(
-    subject: &Subject<'_>,
-    draft: &mut Draft,
-    levels: u32,
-    around: &Around<'_>,
-    course: &mut Course,
-    item: &Item,
-) -> Result<(), AllocError>
-    requires ready { IsReady subject.now draft.old.certificate draft.old.probe.count }
-    requires placed { (others : List tree.Item) × AreItems subject.now course.old.by (walks.around subject.now.script.now around.now) (known_behind subject.now course.old.behind) (item.now ∷ others) }
-    ensures swept { IfOk result (λ unit. IsSwept subject.now draft.old.certificate draft.new.certificate draft.new.probe.count) }
-    ensures passed { IfOk result (λ unit. IsPassed subject.now course.old course.new item.now) }
-{
-    enter_item(subject, draft, levels, around, &*course, item)?;
-    pass_on(subject, &draft.certificate, course, item);
-    Ok(())
 }
 
 // Lowers the certificate at the commands of an item.
@@ -342,7 +322,17 @@ fn sweep_command(
     }
     let look = look(subject, &mut draft.waiting, command.number);
     let outer = draft.waiting.enter_command(command.number);
-    sweep_looked(subject, draft, levels - 1, by, around, known, command, look, outer)?;
+    sweep_looked(
+        subject,
+        draft,
+        levels - 1,
+        by,
+        around,
+        known,
+        command,
+        look,
+        outer,
+    )?;
     draft.waiting.leave(outer);
     Ok(())
 }
@@ -381,15 +371,10 @@ fn sweep_looked(
             subject, draft, levels, by, around, known, command, is_new, is_inside,
         )
     } else {
-        sweep_compound(subject, draft, levels, by, around, known, command, is_new, outer)
+        sweep_compound(
+            subject, draft, levels, by, around, known, command, is_new, outer,
+        )
     }
-}
-
-// Whether some run comes to a command, by what is claimed before it: a hint.
-fn is_entered(draft: &Draft, command: &Command) -> bool {
-    let index = u16::try_from(command.number.saturating_sub(1)).unwrap_or(0);
-    let part = Part::Before;
-    matches!(facts_at(&draft.certificate, Place { part, index }), Some(Facts::Known { .. }))
 }
 
 // Lowers the certificate at the commands in the words of a simple command, and after it if

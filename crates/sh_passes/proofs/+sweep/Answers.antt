@@ -1,5 +1,7 @@
 mod Bodies
 mod Choices
+mod Items
+mod Links
 mod Words
 use Rattle.std.proofs.Common.{rules as std_rules, arith, ap, length, true, ◌≡◌, ◌<◌, ◌≤◌, ◌+◌, ◌∷◌, ◌++◌, ◌∙◌, [], ℕ, List, drop, refl, sym, subst}
 use Rattle.std.proofs.lemmas.List.{drop_all}
@@ -37,6 +39,7 @@ use Rattle.sh_drafts.proofs.ReadyLemmas.{names_numbered, ready_again, swept_more
 use Rattle.sh_sweeps.proofs.WordLemmas.{Along, along_first, along_no_operands, along_no_parts, along_operands, along_parts, arithmetic_gained, arithmetic_placed, assigned_gained, assigned_placed, both_gained, case_word, chain_first, chain_gained, chain_rest, choice_condition, choice_gained, choice_no, choice_yes, clause_patterns, double_gained, double_placed, element_as, elements_first, elements_placed, expanded_gained, expanded_placed, expansion_gained, expansion_placed, expression_as, expression_gained, file_gained, file_placed, for_words_placed, gained_nowhere, here_gained, here_placed, if_ok, kind_as, kind_placed, link_expression, listed_placed, literal_gained, nothing_gained, operand_inside, operand_next, operand_placed, operands_next, parenthesis_gained, parenthesis_placed, part_as, part_gained, part_placed, pattern_placed, patterns_next, pieces_next, plain_gained, redirect_placed, redirection_next, redirection_placed, redirections_placed, redirects_next, remove_placed, signed_gained, signed_placed, substitution_placed, use_gained, use_placed, value_next, value_placed, word_placed, words_next}
 use Rattle.sh_passes.proofs.+sweep.Goals as goal
 use Rattle.sh_passes.proofs.+sweep.Answers.Bodies as bodies
+use Rattle.sh_passes.proofs.+sweep.Answers.Items as items
 use Rattle.sh_passes.proofs.+sweep.Answers.Links as links
 use Rattle.sh_passes.proofs.+sweep.Answers.Choices as choices
 use Rattle.sh_passes.proofs.+sweep.Answers.Words as words
@@ -217,11 +220,20 @@ sweep::sweep_and_or-returns t c = record { swept = if_ok c.sweep_links.result _ 
 pub sweep::sweep_inside-returns : goal.sweep::sweep_inside-returns
 sweep::sweep_inside-returns t c = record { swept = if_ok c.sweep_kind.result _ _ (λ u h. swept_more c.args.subject.now _ _ _ _ _ c.in_ok-sweep_redirections.ensures.swept h) c.sweep_kind.ensures.swept }
 
-pub sweep::sweep_looked-returns-then-is_simple-2 : goal.sweep::sweep_looked-returns-then-is_simple-2
-sweep::sweep_looked-returns-then-is_simple-2 t c = record { swept = if_ok c.sweep_simple.result _ _ (λ u h. swept_more c.args.subject.now _ _ _ _ _ c.in_ok-lower_before.ensures.swept h) c.sweep_simple.ensures.swept }
+pub sweep::sweep_looked-sweep_simple-requires : goal.sweep::sweep_looked-sweep_simple-requires
+sweep::sweep_looked-sweep_simple-requires t c = record { ready = ready_again c.args.subject.now _ _ _ _ c.requires.ready c.in_ok-lower_before.ensures.swept; placed = c.requires.placed }
+
+pub sweep::sweep_looked-sweep_compound-requires : goal.sweep::sweep_looked-sweep_compound-requires
+sweep::sweep_looked-sweep_compound-requires t c = record { ready = ready_again c.args.subject.now _ _ _ _ c.requires.ready c.in_ok-lower_before.ensures.swept; placed = c.requires.placed }
+
+pub sweep::sweep_looked-returns-after-is_new : goal.sweep::sweep_looked-returns-after-is_new
+sweep::sweep_looked-returns-after-is_new t c = record { swept = if_ok c.sweep_simple.result _ _ (λ u h. swept_more c.args.subject.now _ _ _ _ _ c.in_ok-lower_before.ensures.swept h) c.sweep_simple.ensures.swept }
 
 pub sweep::sweep_looked-returns-else-is_simple-2 : goal.sweep::sweep_looked-returns-else-is_simple-2
 sweep::sweep_looked-returns-else-is_simple-2 t c = record { swept = if_ok c.sweep_compound.result _ _ (λ u h. swept_more c.args.subject.now _ _ _ _ _ c.in_ok-lower_before.ensures.swept h) c.sweep_compound.ensures.swept }
+
+pub sweep::sweep_iteration-returns-in_ok-sweep_for_words-in-For : goal.sweep::sweep_iteration-returns-in_ok-sweep_for_words-in-For
+sweep::sweep_iteration-returns-in_ok-sweep_for_words-in-For t c = record { swept = if_ok c.sweep_for.result _ _ (λ u h. swept_more c.args.subject.now _ _ _ _ _ c.in_ok-sweep_for_words.ensures.swept h) c.sweep_for.ensures.swept }
 
 pub sweep::sweep_loop-returns : goal.sweep::sweep_loop-returns
 sweep::sweep_loop-returns t c = record { swept = swept_more c.args.subject.now _ _ _ _ _ c.in_ok-sweep_items.ensures.swept c.in_ok-sweep_list.ensures.swept }
@@ -624,51 +636,19 @@ pub choices::sweep_cond-returns-in-Some : goal.choices::sweep_cond-returns-in-So
 choices::sweep_cond-returns-in-Some = choices.sweep_cond-returns-in-Some
 
 pub sweep::sweep_items-pass_idle-next-requires : goal.sweep::sweep_items-pass_idle-next-requires
-sweep::sweep_items-pass_idle-next-requires t c =
-    let s = c.args.subject.now in
-    let course = c.loop-place.course in
-    let ready : IsReady s c.loop-place.draft.certificate c.loop-place.draft.probe.count = ready_again s _ _ _ _ c.requires.ready c.loop-place.invariant.swept in
-    let placed : (y : Around) × AreItems s course.by y (known_behind s course.behind) (drop c.loop-place.place c.args.items.now) = (_, c.loop-place.invariant.placed) in
-    search std_rules
+sweep::sweep_items-pass_idle-next-requires = items.sweep_items-pass_idle-next-requires
 
 pub sweep::sweep_items-sweep_or_pass-requires : goal.sweep::sweep_items-sweep_or_pass-requires
-sweep::sweep_items-sweep_or_pass-requires t c =
-    let s = c.args.subject.now in
-    let r = c.requires.ready in
-    let y = walks.around s.script.now c.args.around.now in
-    let is = c.args.items.now in
-    let at = c.loop-place.place in
-    let next = c.pass_idle-next.result in
-    let course = c.pass_idle-next.new.course in
-    let ready : IsReady s c.loop-place.draft.certificate c.loop-place.draft.probe.count = ready_again s _ _ _ _ r c.loop-place.invariant.swept in
-    let here : AreItems s course.by y (known_behind s course.behind) (c.index-items-next.result ∷ drop (next + 1) is) =
-    next_item s y is at next c.index-items-next.result c.pass_idle-next.ensures.from c.pass_idle-next.ensures.there c.index-items-next.is c.loop-place.course course c.loop-place.invariant.placed c.pass_idle-next.ensures.passed in
-    let placed : (others : List Item) × AreItems s course.by y (known_behind s course.behind) (c.index-items-next.result ∷ others) = (_, here) in
-    search std_rules
+sweep::sweep_items-sweep_or_pass-requires = items.sweep_items-sweep_or_pass-requires
+
+pub sweep::sweep_or_pass-pass_by-requires-2 : goal.sweep::sweep_or_pass-pass_by-requires-2
+sweep::sweep_or_pass-pass_by-requires-2 = items.sweep_or_pass-pass_by-requires-2
 
 pub sweep::sweep_items-loop-place-preserved : goal.sweep::sweep_items-loop-place-preserved
-sweep::sweep_items-loop-place-preserved t c =
-    let s = c.args.subject.now in
-    let y = walks.around s.script.now c.args.around.now in
-    let is = c.args.items.now in
-    let at = c.loop-place.place in
-    let next = c.pass_idle-next.result in
-    let course = c.pass_idle-next.new.course in
-    let here : AreItems s course.by y (known_behind s course.behind) (c.index-items-next.result ∷ drop (next + 1) is) =
-    next_item s y is at next c.index-items-next.result c.pass_idle-next.ensures.from c.pass_idle-next.ensures.there c.index-items-next.is c.loop-place.course course c.loop-place.invariant.placed c.pass_idle-next.ensures.passed in
-    record {
-      swept = swept_more s _ _ _ _ _ c.loop-place.invariant.swept c.in_ok-news.ensures.swept;
-      placed = items_next s y course c.sweep_or_pass.new.course c.index-items-next.result _ here c.in_ok-news.ensures.passed;
-      goes = λ o k. goes_next s o course c.sweep_or_pass.new.course is c.index-items-next.result _
-          (next_goes s o is at next c.index-items-next.result c.pass_idle-next.ensures.from c.pass_idle-next.ensures.there c.index-items-next.is c.loop-place.course course (c.loop-place.invariant.goes o k) c.pass_idle-next.ensures.passed) c.in_ok-news.ensures.passed;
-    }
+sweep::sweep_items-loop-place-preserved = items.sweep_items-loop-place-preserved
 
 pub sweep::sweep_items-returns-clause-behind : goal.sweep::sweep_items-returns-clause-behind
-sweep::sweep_items-returns-clause-behind t c =
-    λ o k.
-    let s = c.args.subject.now in
-    goes_last s o (known_behind s c.loop-place.course.behind) c.args.items.now
-    (subst (GoesOn s o (known_behind s c.loop-place.course.behind) c.args.items.now) (drop_all c.loop-place.place c.args.items.now c.loop-place-test.false) (c.loop-place.invariant.goes o k))
+sweep::sweep_items-returns-clause-behind = items.sweep_items-returns-clause-behind
 
 pub sweep::sweep_simple-sweep_held-requires : goal.sweep::sweep_simple-sweep_held-requires
 sweep::sweep_simple-sweep_held-requires t c =
@@ -708,8 +688,8 @@ sweep::sweep_compound-lower_behind-requires-clause-ready t c =
     let s = c.args.subject.now in
     ready_again s _ _ _ _ (ready_again s _ _ _ _ c.requires.ready c.in_ok-sweep_rounds.ensures.swept) c.in_ok-sweep_again.ensures.swept
 
-pub sweep::sweep_compound-returns-then-eq : goal.sweep::sweep_compound-returns-then-eq
-sweep::sweep_compound-returns-then-eq t c =
+pub sweep::sweep_compound-returns-then-draft-before : goal.sweep::sweep_compound-returns-then-draft-before
+sweep::sweep_compound-returns-then-draft-before t c =
     let s = c.args.subject.now in
     record { swept = swept_more s _ _ _ _ _ c.in_ok-sweep_rounds.ensures.swept c.in_ok-sweep_again.ensures.swept }
 
@@ -786,6 +766,9 @@ bodies::sweep_body-lower_return-requires-2-clause-stands = bodies.sweep_body-low
 
 pub bodies::sweep_body-place_in-other-requires : goal.bodies::sweep_body-place_in-other-requires
 bodies::sweep_body-place_in-other-requires = bodies.sweep_body-place_in-other-requires
+
+pub bodies::sweep_body-nonzero_of-nonzero-requires : goal.bodies::sweep_body-nonzero_of-nonzero-requires
+bodies::sweep_body-nonzero_of-nonzero-requires = bodies.sweep_body-nonzero_of-nonzero-requires
 
 pub bodies::sweep_body-returns : goal.bodies::sweep_body-returns
 bodies::sweep_body-returns = bodies.sweep_body-returns

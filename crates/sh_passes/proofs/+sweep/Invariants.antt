@@ -192,9 +192,6 @@ decreases-sweep::sweep_items l = l.levels * 64 + 18
 abbrev pub decreases-sweep::sweep_or_pass : goal.decreases-sweep::sweep_or_pass
 decreases-sweep::sweep_or_pass l = l.levels * 64 + 17
 
-abbrev pub decreases-sweep::sweep_item : goal.decreases-sweep::sweep_item
-decreases-sweep::sweep_item l = l.levels * 64 + 16
-
 abbrev pub decreases-words::sweep_elements : goal.decreases-words::sweep_elements
 decreases-words::sweep_elements l = l.levels * 64 + 14
 

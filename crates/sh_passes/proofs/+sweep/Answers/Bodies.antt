@@ -140,6 +140,11 @@ sweep_body-lower_return-requires-2-clause-stands t c = λ unstated.
     subst (λ u. IsWithin (facts (claim_there other (place_of fs (ReturnsNonzero u)))) k) (sym c.text-text.ensures)
     (returns_nonzero s c.requires.ready.admitted w.0 w.1 w.2 w.3 w.4 (text_of s.script.now c.args.name) c.args.body.now w.5 w.6 unstated k c.nonzero_of-nonzero.ensures other keeps))
 
+pub sweep_body-nonzero_of-nonzero-requires : goal.bodies::sweep_body-nonzero_of-nonzero-requires
+sweep_body-nonzero_of-nonzero-requires t c =
+    let s = c.args.subject.now in
+    (c.lower_return.new.draft.probe.count, ready_again s _ _ _ _ (ready_again s _ _ _ _ c.requires.ready c.in_ok-sweep_definition.ensures.swept) c.in_ok-lower_return.ensures.swept)
+
 pub sweep_body-place_in-other-requires : goal.bodies::sweep_body-place_in-other-requires
 sweep_body-place_in-other-requires t c =
     let s = c.args.subject.now in

@@ -1,0 +1,61 @@
+use Rattle.std.proofs.Common.{rules as std_rules, ◌+◌, ◌∷◌, List, drop, subst}
+use Rattle.std.proofs.lemmas.List.{drop_all}
+use Rattle.sh_tree.specs.declared.tree.Item.{Item}
+use Rattle.sh_domain.specs.Entries.{Around}
+use Rattle.sh_domain.specs.Views.{at}
+use Rattle.sh_rules.specs.Walks as walks
+use Rattle.sh_sweeps.specs.Sweeps.{AreItems, known_behind}
+use Rattle.sh_drafts.specs.Ready.{IsReady}
+use Rattle.sh_sweeps.proofs.PlacedLemmas.{goes_last, goes_next, GoesOn, items_next, next_goes, next_item}
+use Rattle.sh_drafts.proofs.ReadyLemmas.{ready_again, swept_more}
+use Rattle.sh_passes.proofs.+sweep.Goals as goal
+
+pub sweep_items-pass_idle-next-requires : goal.sweep::sweep_items-pass_idle-next-requires
+sweep_items-pass_idle-next-requires t c =
+    let s = c.args.subject.now in
+    let course = c.loop-place.course in
+    let ready : IsReady s c.loop-place.draft.certificate c.loop-place.draft.probe.count = ready_again s _ _ _ _ c.requires.ready c.loop-place.invariant.swept in
+    let placed : (y : Around) × AreItems s course.by y (known_behind s course.behind) (drop c.loop-place.place c.args.items.now) = (_, c.loop-place.invariant.placed) in
+    search std_rules
+
+pub sweep_items-sweep_or_pass-requires : goal.sweep::sweep_items-sweep_or_pass-requires
+sweep_items-sweep_or_pass-requires t c =
+    let s = c.args.subject.now in
+    let r = c.requires.ready in
+    let y = walks.around s.script.now c.args.around.now in
+    let is = c.args.items.now in
+    let at = c.loop-place.place in
+    let next = c.pass_idle-next.result in
+    let course = c.pass_idle-next.new.course in
+    let ready : IsReady s c.loop-place.draft.certificate c.loop-place.draft.probe.count = ready_again s _ _ _ _ r c.loop-place.invariant.swept in
+    let here : AreItems s course.by y (known_behind s course.behind) (c.index-items-next.result ∷ drop (next + 1) is) =
+    next_item s y is at next c.index-items-next.result c.pass_idle-next.ensures.from c.pass_idle-next.ensures.there c.index-items-next.is c.loop-place.course course c.loop-place.invariant.placed c.pass_idle-next.ensures.passed in
+    let placed : (others : List Item) × AreItems s course.by y (known_behind s course.behind) (c.index-items-next.result ∷ others) = (_, here) in
+    search std_rules
+
+pub sweep_or_pass-pass_by-requires-2 : goal.sweep::sweep_or_pass-pass_by-requires-2
+sweep_or_pass-pass_by-requires-2 t c = ready_again c.args.subject.now _ _ _ _ c.requires.ready c.in_ok-enter_item.ensures.swept
+
+pub sweep_items-loop-place-preserved : goal.sweep::sweep_items-loop-place-preserved
+sweep_items-loop-place-preserved t c =
+    let s = c.args.subject.now in
+    let y = walks.around s.script.now c.args.around.now in
+    let is = c.args.items.now in
+    let at = c.loop-place.place in
+    let next = c.pass_idle-next.result in
+    let course = c.pass_idle-next.new.course in
+    let here : AreItems s course.by y (known_behind s course.behind) (c.index-items-next.result ∷ drop (next + 1) is) =
+    next_item s y is at next c.index-items-next.result c.pass_idle-next.ensures.from c.pass_idle-next.ensures.there c.index-items-next.is c.loop-place.course course c.loop-place.invariant.placed c.pass_idle-next.ensures.passed in
+    record {
+      swept = swept_more s _ _ _ _ _ c.loop-place.invariant.swept c.in_ok-news.ensures.swept;
+      placed = items_next s y course c.sweep_or_pass.new.course c.index-items-next.result _ here c.in_ok-news.ensures.passed;
+      goes = λ o k. goes_next s o course c.sweep_or_pass.new.course is c.index-items-next.result _
+          (next_goes s o is at next c.index-items-next.result c.pass_idle-next.ensures.from c.pass_idle-next.ensures.there c.index-items-next.is c.loop-place.course course (c.loop-place.invariant.goes o k) c.pass_idle-next.ensures.passed) c.in_ok-news.ensures.passed;
+    }
+
+pub sweep_items-returns-clause-behind : goal.sweep::sweep_items-returns-clause-behind
+sweep_items-returns-clause-behind t c =
+    λ o k.
+    let s = c.args.subject.now in
+    goes_last s o (known_behind s c.loop-place.course.behind) c.args.items.now
+    (subst (GoesOn s o (known_behind s c.loop-place.course.behind) c.args.items.now) (drop_all c.loop-place.place c.args.items.now c.loop-place-test.false) (c.loop-place.invariant.goes o k))
