@@ -221,10 +221,16 @@ pub sweep::sweep_inside-returns : goal.sweep::sweep_inside-returns
 sweep::sweep_inside-returns t c = record { swept = if_ok c.sweep_kind.result _ _ (λ u h. swept_more c.args.subject.now _ _ _ _ _ c.in_ok-sweep_redirections.ensures.swept h) c.sweep_kind.ensures.swept }
 
 pub sweep::sweep_looked-sweep_simple-requires : goal.sweep::sweep_looked-sweep_simple-requires
-sweep::sweep_looked-sweep_simple-requires t c = record { ready = ready_again c.args.subject.now _ _ _ _ c.requires.ready c.in_ok-lower_before.ensures.swept; placed = c.requires.placed }
+sweep::sweep_looked-sweep_simple-requires t c =
+    let s = c.args.subject.now in
+    let ready : IsReady s c.lower_before.new.draft.certificate c.lower_before.new.draft.probe.count = ready_again s _ _ _ _ c.requires.ready c.in_ok-lower_before.ensures.swept in
+    search std_rules
 
 pub sweep::sweep_looked-sweep_compound-requires : goal.sweep::sweep_looked-sweep_compound-requires
-sweep::sweep_looked-sweep_compound-requires t c = record { ready = ready_again c.args.subject.now _ _ _ _ c.requires.ready c.in_ok-lower_before.ensures.swept; placed = c.requires.placed }
+sweep::sweep_looked-sweep_compound-requires t c =
+    let s = c.args.subject.now in
+    let ready : IsReady s c.lower_before.new.draft.certificate c.lower_before.new.draft.probe.count = ready_again s _ _ _ _ c.requires.ready c.in_ok-lower_before.ensures.swept in
+    search std_rules
 
 pub sweep::sweep_looked-returns-after-is_new : goal.sweep::sweep_looked-returns-after-is_new
 sweep::sweep_looked-returns-after-is_new t c = record { swept = if_ok c.sweep_simple.result _ _ (λ u h. swept_more c.args.subject.now _ _ _ _ _ c.in_ok-lower_before.ensures.swept h) c.sweep_simple.ensures.swept }
@@ -233,7 +239,7 @@ pub sweep::sweep_looked-returns-else-is_simple-2 : goal.sweep::sweep_looked-retu
 sweep::sweep_looked-returns-else-is_simple-2 t c = record { swept = if_ok c.sweep_compound.result _ _ (λ u h. swept_more c.args.subject.now _ _ _ _ _ c.in_ok-lower_before.ensures.swept h) c.sweep_compound.ensures.swept }
 
 pub sweep::sweep_iteration-returns-in_ok-sweep_for_words-in-For : goal.sweep::sweep_iteration-returns-in_ok-sweep_for_words-in-For
-sweep::sweep_iteration-returns-in_ok-sweep_for_words-in-For t c = record { swept = if_ok c.sweep_for.result _ _ (λ u h. swept_more c.args.subject.now _ _ _ _ _ c.in_ok-sweep_for_words.ensures.swept h) c.sweep_for.ensures.swept }
+sweep::sweep_iteration-returns-in_ok-sweep_for_words-in-For t c = record { swept = if_ok c.sweep_for.result _ _ (λ u h. swept_more c.args.subject.now _ _ _ _ _ c.in_ok-sweep_for_words-in-For.ensures.swept h) c.sweep_for.ensures.swept }
 
 pub sweep::sweep_loop-returns : goal.sweep::sweep_loop-returns
 sweep::sweep_loop-returns t c = record { swept = swept_more c.args.subject.now _ _ _ _ _ c.in_ok-sweep_items.ensures.swept c.in_ok-sweep_list.ensures.swept }

@@ -2,7 +2,6 @@ use Rattle.std.proofs.Common.{rules as std_rules, ◌+◌, ◌∷◌, List, drop
 use Rattle.std.proofs.lemmas.List.{drop_all}
 use Rattle.sh_tree.specs.declared.tree.Item.{Item}
 use Rattle.sh_domain.specs.Entries.{Around}
-use Rattle.sh_domain.specs.Views.{at}
 use Rattle.sh_rules.specs.Walks as walks
 use Rattle.sh_sweeps.specs.Sweeps.{AreItems, known_behind}
 use Rattle.sh_drafts.specs.Ready.{IsReady}
