@@ -338,6 +338,20 @@ def documents(size):
     return text_of(["f() { a && unset v && g; }", "g() { b && f; }", *joined([line] * size, size - 60)])
 
 
+def reached_back(opens, part, filler, closes):
+    """Parts that are reached from the last to the first: fN returns only once gN is gone. C stands for the commands of a part. Others are the rest."""
+
+    def of(size):
+        count = count_of(size // 2, f"g1000() {{ exit; }}\nf1000() {{ g1000; }}\n{part}f1000; unset -f g1000; f1000", MOST_NAMES // 2)
+        lines = [f"g{n}() {{ exit; }}\nf{n}() {{ g{n}; }}" for n in range(count + 1)]
+        chain = [f"f{n + 1}; unset -f g{n}; f{n}" for n in range(count)] + [f"unset -f g{count}; f{count}"]
+        text = text_of(lines) + opens + "".join(part.replace("C", commands) for commands in chain)
+        room = min(size - len(text) - len(closes), (MOST_COMMANDS - 10 * count) * len(filler) // 2)
+        return text + filler * max(0, room // len(filler)) + closes
+
+    return of
+
+
 def each(line, most=MOST_NAMES):
     """A line for each of so many numbers, and again from the first: N is the number, K the next, M another."""
     return line, most
@@ -587,6 +601,12 @@ FAMILIES = {
     "rows": (rows_in_loop, ()),
     "losing inward": (losing_loops, ()),
     "losing outward": (losing_loops_outward, ()),
+    "reached back in case": (reached_back("case x in\n", "a) C ;;\n", "a) b;;\n", "esac\n"), ()),
+    "reached back in if": (reached_back("if a; then b\n", "elif a; then ( C )\n", "elif a; then b\n", "fi\n"), ()),
+    "reached back in a pipeline": (reached_back("a", " | ( C )", "|a", "\n"), ()),
+    "reached back in operands": (reached_back("echo ", "$(C) ", '"$a" ', "\n"), ()),
+    "reached back in a here-document": (reached_back("cat <<E\n", "$(C)\n", "$(b)\n", "E\n"), ()),
+    "reached back in items": (reached_back("", "a|b && ( C )\n", "a|b && c\n", ""), ()),
     "jumps": (jumps, ()),
     "calls back": (calls_back, ()),
     "calls late": (calls_late, ()),
