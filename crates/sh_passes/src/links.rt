@@ -58,13 +58,14 @@ fn link_or_pass(
         → AreLinks subject.now (walks.around subject.now.script.now around.now) (known_behind subject.now behind.old) (link.now ∷ others)
         → AreLinks subject.now (walks.around subject.now.script.now around.now) (known_behind subject.now behind.new) others) }
 {
-    if !behind.at_link(link.0).is_reached() && !does_pipe_wait(&draft.waiting, &link.1) {
+    let waits = does_pipe_wait(&draft.waiting, &link.1);
+    if !behind.at_link(link.0).is_reached() && !waits {
         link_if(subject, &draft.certificate, behind, link, false);
         return Ok(());
     }
     let before = draft.lowered;
     enter_link(subject, draft, levels, around, &*behind, link)?;
-    let is_new = draft.lowered != before;
+    let is_new = waits || draft.lowered != before;
     link_if(subject, &draft.certificate, behind, link, is_new);
     Ok(())
 }

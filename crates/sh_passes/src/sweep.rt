@@ -30,7 +30,7 @@ use sh_sweeps::known::{entry_of, head_of, pass_all, pass_on, process_of, started
 use sh_sweeps::nowhere::{inside_if, leave_all, leave_item, pipe_if};
 use sh_sweeps::{News, carry_over, lower_before};
 use sh_tree::{AndOr, Command, Item, Kind, LoopKind, Pipe, Script, Span};
-use sh_worklist::{Inside, Look, do_links_wait, does_item_wait, next_place};
+use sh_worklist::{Inside, Look, do_links_wait, does_item_wait, does_pipe_wait, next_place};
 use std::alloc::AllocError;
 
 /// How many levels are gone into: of commands, of parts of words, and of expressions in arithmetic.
@@ -133,7 +133,8 @@ fn sweep_or_pass(
     // Each link is a look too, so that rounds which pass by long lists are noticed.
     let links = item.list.rest.as_slice().len() as u64;
     draft.looks = draft.looks.saturating_add(links);
-    if news.passes(item) && !does_item_wait(&draft.waiting, item) {
+    let waits = does_item_wait(&draft.waiting, item);
+    if news.passes(item) && !waits {
         pass_by(subject, &*draft, course, news, item);
         return Ok(news.after(item));
     }
@@ -144,7 +145,14 @@ fn sweep_or_pass(
     } else {
         News::Anything
     };
-    pass_by(subject, &*draft, course, news, item);
+    // If all wait after a turn, what the turn lowered is new to those that come next.
+    pass_by(
+        subject,
+        &*draft,
+        course,
+        if waits { News::Anything } else { news },
+        item,
+    );
     Ok(news)
 }
 
@@ -222,11 +230,12 @@ fn sweep_and_or(
     requires placed { IsAndOr subject.now by (walks.around subject.now.script.now around.now) (knowledge_facts subject.now.names.now known.now) list.now }
     ensures swept { IfOk result (λ unit. IsSwept subject.now draft.old.certificate draft.new.certificate draft.new.probe.count) }
 {
+    let waits = does_pipe_wait(&draft.waiting, &list.first);
     let before = draft.lowered;
     sweep_pipe(subject, draft, levels, by, around, known, &list.first)?;
     let links = list.rest.as_slice();
     let is_joined = known.is_reached() && list.first.parts.as_slice().len() != 1;
-    let is_new = draft.lowered != before || is_joined;
+    let is_new = waits || draft.lowered != before || is_joined;
     if links.is_empty() || (!is_new && !do_links_wait(&draft.waiting, links)) {
         return Ok(());
     }

@@ -790,8 +790,8 @@ links::sweep_links-link_or_pass-requires = links.sweep_links-link_or_pass-requir
 pub links::sweep_links-loop-link-preserved : goal.links::sweep_links-loop-link-preserved
 links::sweep_links-loop-link-preserved = links.sweep_links-loop-link-preserved
 
-pub links::link_or_pass-returns-then-not-does_pipe_wait-clause-passed : goal.links::link_or_pass-returns-then-not-does_pipe_wait-clause-passed
-links::link_or_pass-returns-then-not-does_pipe_wait-clause-passed = links.link_or_pass-returns-then-not-does_pipe_wait-clause-passed
+pub links::link_or_pass-returns-then-not-waits-clause-passed : goal.links::link_or_pass-returns-then-not-waits-clause-passed
+links::link_or_pass-returns-then-not-waits-clause-passed = links.link_or_pass-returns-then-not-waits-clause-passed
 
 pub links::link_or_pass-returns-clause-passed : goal.links::link_or_pass-returns-clause-passed
 links::link_or_pass-returns-clause-passed = links.link_or_pass-returns-clause-passed

@@ -39,8 +39,8 @@ sweep_links-loop-link-preserved t c =
     let here : AreLinks s y (known_behind s c.loop-link.behind) (c.link-item.result ∷ drop (c.loop-link.link-index + 1) c.args.links.now) = subst (AreLinks s y (known_behind s c.loop-link.behind)) (at_index c.args.links.now c.loop-link.link-index c.link-item.result c.loop-link-test.true c.link-item.is) c.loop-link.invariant.placed in
     record { swept = swept_more s _ _ _ _ _ c.loop-link.invariant.swept c.in_ok-link_or_pass.ensures.swept; placed = c.in_ok-link_or_pass.ensures.passed _ here }
 
-pub link_or_pass-returns-then-not-does_pipe_wait-clause-passed : goal.links::link_or_pass-returns-then-not-does_pipe_wait-clause-passed
-link_or_pass-returns-then-not-does_pipe_wait-clause-passed t c =
+pub link_or_pass-returns-then-not-waits-clause-passed : goal.links::link_or_pass-returns-then-not-waits-clause-passed
+link_or_pass-returns-then-not-waits-clause-passed t c =
     λ others here.
     let s = c.args.subject.now in
     let y = walks.around s.script.now c.args.around.now in
