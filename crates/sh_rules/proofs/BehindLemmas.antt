@@ -1,21 +1,24 @@
 -- What is known after a piece of a tree, by the pieces one level below it.
-use Rattle.std.proofs.Common.{◌≡◌, ℕ, zero, suc, ◌<◌, Bool, true, false, not, ◌&&◌, true≢false, Option, Some, None, is_some, unwrap_or, List, [], ◌∷◌, length, get_or, drop, fold, refl, sym, ap, ◌∙◌, arith}
+use Rattle.std.proofs.Common.{◌≡◌, ℕ, zero, suc, ◌<◌, ◌==◌, Bor, Bool, true, false, not, ◌&&◌, true≢false, Option, Some, None, is_some, unwrap_or, List, [], ◌∷◌, length, get_or, drop, fold, refl, sym, ap, ◌∙◌, arith}
 use Rattle.sh_tree.specs.declared.tree.AndOr.{AndOr, out-AndOr}
 use Rattle.sh_tree.specs.declared.tree.Command.{Command, out-Command}
 use Rattle.sh_tree.specs.declared.tree.Item.{Item, out-Item}
 use Rattle.sh_tree.specs.declared.tree.Link.{Link}
 use Rattle.sh_tree.specs.declared.tree.Pipe.{Pipe, out-Pipe}
 use Rattle.sh_tree.specs.declared.tree.Script.{Script, out-Script}
+use Rattle.std.proofs.lemmas.Bool.Decides.{nat_tests}
+use Rattle.std.specs.Option.{option_copied}
 use Rattle.sh_tree.specs.standard.Words.{lone_part}
 use Rattle.sh_tree.specs.Lists.{commands_from, links_from, items_from}
 use Rattle.sh_tree.specs.standard.program.Syntax as p
 use Rattle.sh_tree.specs.standard.program.Trees as trees
 use Rattle.sh_tree.proofs.ProgramRules as rules
-use Rattle.sh_domain.specs.Facts.{Facts, NotReached}
+use Rattle.sh_domain.specs.Facts.{Facts, NotReached, meet}
 use Rattle.sh_domain.specs.Gains.{job, named}
 use Rattle.sh_domain.specs.Views.{AfterZero, AfterNonzero}
 use Rattle.sh_rules.specs.Settings.{Setting, known_at, gained}
-use Rattle.sh_rules.specs.Behind.{Behind, both, either, in_any_case, swapped, link_known, linked, parts_behind, pipeline_behind, links_behind, list_behind, behind_known, items_behind}
+use Rattle.sh_domain.proofs.OrderLemmas.{within_itself, within_same, meet_first, meet_greatest}
+use Rattle.sh_rules.specs.Behind.{Behind, IsSame, both, either, in_any_case, swapped, link_known, linked, parts_behind, pipeline_behind, links_behind, list_behind, behind_known, items_behind}
 use Rattle.sh_domain.specs.declared.knowledge.Knowledge.TheVariants as knowledge
 use Rattle.sh_domain.specs.Knowledge.{knowledge_facts}
 use Rattle.sh_rules.specs.Walks.{facts_in, commands_behind, pipe_behind, link_left, and_or_behind, behind_item, item_left, is_settled, script_behind}
@@ -139,6 +142,36 @@ pub settled_there : (x : Setting) (o p : Behind) (n : ℕ) (is : List Item) (i :
 settled_there x o p n [] i l h e = absurd (omega arith)
 settled_there x o p zero (j ∷ js) i l h e = ap (λ q. fold (item_left x) q js) (alike x o p j (ap is_settled (sym h) ∙ e))
 settled_there x o p (suc n) (j ∷ js) i l h e = settled_there x o (item_left x p j) n js i (omega (arith, l)) h e
+
+-- a pipeline of two or more commands
+
+none : (ls : List (Link × Pipe)) → true ≡ (length ls == 0) → ls ≡ []
+none [] e = refl
+none (l ∷ ls) e = absurd (grind (arith, nat_tests, e))
+
+not_some : (p : Option (Bor Command)) (b : Bool) → is_some p ≡ not b → b ≡ true → option_copied p ≡ None
+not_some None b e h = refl
+not_some (Some c) true e h = absurd (true≢false e)
+not_some (Some c) false e h = absurd (true≢false (sym h))
+
+pub kept : (x : Setting) (o : Behind) (i : Item) (ls : List (Link × Pipe)) (p : Option (Bor Command)) (b : Bool) → (out-Item i).background ≡ false → ls ≡ (out-AndOr (out-Item i).list).rest → true ≡ (length ls == 0)
+    → option_copied p ≡ lone_part (out-Pipe (out-AndOr (out-Item i).list).first).parts → is_some p ≡ not b → b ≡ true → item_left x o i ≡ both (in_any_case o)
+kept x o i ls p b alone rest empty lone is h =
+    let list = (out-Item i).list in
+    item_out x o i ∙ foreground x (in_any_case o) i alone ∙ and_or_out x (in_any_case o) list
+    ∙ ap (fold (link_left x) (pipe_behind x (in_any_case o) (out-AndOr list).first)) (sym rest ∙ none ls empty)
+    ∙ not_lone x (in_any_case o) (out-AndOr list).first (sym lone ∙ not_some p b is h)
+
+meet_itself : (f : Facts) → meet f f ≡ f
+meet_itself f = within_same (meet f f) f (meet_first f f) (meet_greatest f f f (within_itself f) (within_itself f))
+
+pub same_kept : (o : Behind) → IsSame o → both (in_any_case o) ≡ o
+same_kept o e =
+    let joined : in_any_case o ≡ o.zero = ap (meet o.zero) (sym e) ∙ meet_itself o.zero in
+    ap both joined ∙ ap (either o.zero) e
+
+pub kept_same : (o p : Behind) → o ≡ both (in_any_case p) → IsSame o
+kept_same o p e = ap (λ (q : Behind). q.zero) e ∙ ap (λ (q : Behind). q.nonzero) (sym e)
 
 -- the list of an item that is no asynchronous one
 

@@ -1,7 +1,7 @@
 -- What is known after a list, by its status: what `sh_domain` says of what is seen there, as one
 -- fact for each.
 -- POSIX.1-2024, XCU 2.9.2 (pipelines), 2.9.3 (lists).
-use Rattle.std.specs.Prelude.{Bool, true, false, [], ◌∷◌}
+use Rattle.std.specs.Prelude.{◌≡◌, Bool, true, false, [], ◌∷◌}
 use Rattle.sh_tree.specs.declared.tree.ClauseEnd.{ClauseEnd}
 use Rattle.sh_tree.specs.declared.tree.ClauseEnd.TheVariants as clause
 use Rattle.sh_tree.specs.declared.tree.Link.{Link}
@@ -25,6 +25,9 @@ either z n = record { zero = z; nonzero = n }
 -- the same after both
 abbrev pub both : Facts → Behind
 both k = either k k
+
+abbrev pub IsSame : Behind → Type 0
+IsSame o = o.zero ≡ o.nonzero
 
 -- whatever the status was
 abbrev pub in_any_case : Behind → Facts

@@ -1,5 +1,5 @@
 //! What is known after lists, by their status (XCU 2.9.2, 2.9.3).
-ghost use Rattle.std.specs.Prelude.{◌≡◌, fold, [], ◌∷◌, List, Some, false, IfSome};
+ghost use Rattle.std.specs.Prelude.{◌≡◌, fold, [], ◌∷◌, List, Some, true, false, IfSome};
 ghost use Rattle.sh_tree.specs.declared.tree.AndOr.{out-AndOr};
 ghost use Rattle.sh_tree.specs.declared.tree.Item.{out-Item};
 ghost use Rattle.sh_tree.specs.declared.tree.Link.TheVariants as link;
@@ -296,11 +296,26 @@ impl Behind {
         }
     }
 
+    // Goes on after an item, if what is known before it is the same after each status or not. Reports
+    // the same of what is known after it. Then a pipeline of more commands changes nothing.
+    fn pass_next(&mut self, claims: &Claims<'_>, item: &Item, is_same: bool) -> bool
+        requires { is_same ≡ true → spec.IsSame (walks.behind_in (setting claims.now) self.old) }
+        ensures passed { walks.behind_in (setting claims.now) self.new ≡ walks.item_left (setting claims.now) (walks.behind_in (setting claims.now) self.old) item.now }
+        ensures same { result ≡ true → spec.IsSame (walks.behind_in (setting claims.now) self.new) }
+    {
+        let keeps = keeps(item);
+        if !keeps || !is_same {
+            self.pass_item(claims, item);
+        }
+        keeps
+    }
+
     fn pass_items(&mut self, claims: &Claims<'_>, items: &[Item])
         ensures { walks.behind_in (setting claims.now) self.new ≡ fold (walks.item_left (setting claims.now)) (walks.behind_in (setting claims.now) self.old) items.now }
     {
+        let mut is_same = false;
         for item in items {
-            self.pass_item(claims, item);
+            is_same = self.pass_next(claims, item, is_same);
         }
     }
 
@@ -330,6 +345,17 @@ pub fn is_settled(item: &Item) -> bool
     ensures { result ≡ walks.is_settled item.now }
 {
     !item.background && lone_part(item.list.first.parts.as_slice()).is_some()
+}
+
+// Whether an item is a pipeline of more commands, and no more. Whatever its status, what is known
+// after it is what was known before it.
+fn keeps(item: &Item) -> bool
+    ensures { result ≡ true → (x : Setting) (o : spec.Behind) → walks.item_left x o item.now ≡ spec.both (spec.in_any_case o) }
+{
+    if item.background || !item.list.rest.as_slice().is_empty() {
+        return false;
+    }
+    lone_part(item.list.first.parts.as_slice()).is_none()
 }
 
 // The items from the last one on that settles what is known after it, if one does.
