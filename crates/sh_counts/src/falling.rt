@@ -9,6 +9,7 @@ ghost use Rattle.sh_counts.specs.Heads.{AreLed};
 use crate::bounded::{Bounded, Reach};
 use crate::circles::Way;
 use crate::equations::{Count, Equation, Equations};
+use crate::order::Order;
 use crate::users::Users;
 use std::alloc::{AllocError, Global};
 use std::cmp::Reverse;
@@ -20,9 +21,9 @@ struct Falling {
     counts: Vec<u16>,
     // The equation by which each count fell last: a hint.
     reasons: Vec<Option<Equation>>,
-    // The turns of those that wait. Turns go over all counts by their indices, round by round, so a
-    // count comes after those before it in the script: a hint.
+    // The turns of those that wait. Turns go over all counts in an order, round by round: a hint.
     queue: BinaryHeap<Reverse<u64>>,
+    order: Order,
     waiting: Vec<bool>,
     // The last turn.
     turn: u64,
@@ -39,7 +40,7 @@ fn no_reasons(alloc: Global, length: usize) -> Result<Vec<Option<Equation>>, All
 }
 
 impl Falling {
-    fn new(alloc: Global, most: &[u16]) -> Result<Falling, AllocError>
+    fn new(alloc: Global, most: &[u16], order: Order) -> Result<Falling, AllocError>
         ensures { IfOk result (λ falling. falling.counts.items ≡ most.now) }
     {
         let counts = Vec::from_slice(alloc, most)?;
@@ -49,6 +50,7 @@ impl Falling {
             counts,
             reasons,
             queue: BinaryHeap::new(alloc),
+            order,
             waiting,
             turn: 0,
             falls: 0,
@@ -74,7 +76,8 @@ impl Falling {
     // The next turn of a count of so many.
     fn next_turn(&self, index: usize, counts: u64) -> u64 {
         let place = self.turn.checked_rem(counts).unwrap_or(0);
-        let next = self.turn.saturating_sub(place).saturating_add(index as u64);
+        let next = self.turn.saturating_sub(place);
+        let next = next.saturating_add(self.order.place(index) as u64);
         if next > self.turn {
             next
         } else {
@@ -100,7 +103,8 @@ impl Falling {
     {
         let Reverse(turn) = self.queue.pop()?;
         self.turn = turn;
-        let index = turn.checked_rem(self.waiting.len() as u64)? as usize;
+        let place = turn.checked_rem(self.waiting.len() as u64)?;
+        let index = self.order.at(place as usize)?;
         if index < self.waiting.len() {
             self.waiting[index] = false;
         }
@@ -402,7 +406,8 @@ pub fn solve(alloc: Global, equations: &Equations) -> Result<Vec<u16>, AllocErro
     ensures { IfOk result (λ counts. IsGreatest equations.now counts.items) }
 {
     let users = Users::of(alloc, equations)?;
-    let mut falling = Falling::new(alloc, equations.most())?;
+    let order = Order::of(alloc, &users, equations.most().len())?;
+    let mut falling = Falling::new(alloc, equations.most(), order)?;
     loop {
         if !falling.lower_each(equations.all())? {
             break;

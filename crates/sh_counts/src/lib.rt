@@ -5,6 +5,7 @@ mod bounded;
 mod circles;
 mod equations;
 mod falling;
+mod order;
 mod users;
 
 pub use equations::{Change, Count, Equation, Equations};
