@@ -13,5 +13,6 @@ pub mod DropLemmas
 pub mod WholeLemmas
 pub mod SightLemmas
 pub mod ReachLemmas
+pub mod KeptLemmas
 pub mod ReportLemmas
 pub mod RowLemmas

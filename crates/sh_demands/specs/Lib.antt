@@ -12,4 +12,5 @@ pub mod Told
 pub mod ToldWalks
 pub mod Whole
 pub mod Numbered
+pub mod Kept
 pub mod Reported

@@ -1,19 +1,25 @@
 //! The places that a walk reports.
-ghost use Rattle.std.specs.Prelude.{◌≡◌, ◌++◌, ◌∷◌, ◌<◌, [], List, drop, length, IfOk, IfErr, OnOk};
+ghost use Rattle.std.specs.Prelude.{◌≡◌, ◌+◌, ◌++◌, ◌∷◌, ◌<◌, [], List, drop, length, IfOk, IfErr, OnOk};
 ghost use Rattle.std.specs.List.{list_any};
 ghost use Rattle.std.specs.Str.{bytes_eq};
 ghost use Rattle.sh_tree.specs.declared.place.Place.{Place};
 ghost use Rattle.sh_demands.specs.Drops as drops;
+ghost use Rattle.sh_demands.specs.Kept.{AreTold, IsTold};
 ghost use Rattle.sh_demands.specs.Reported.{Adds, AddsSince, HasReported, place};
 
+use indexmap::IndexSet;
 use sh_tree::{Code, Items, Place};
 use std::alloc::{AllocError, Global};
+use std::marker::Model;
+
+// So many places are compared one by one, without a set of their subjects.
+const FEW: usize = 32;
 
 /// The places that were reported so far, until memory runs out; then no more than that there are
 /// some.
 #[derive(Drop)]
 pub struct Reports {
-    places: Vec<Place>,
+    places: Kept,
     is_short: bool,
 }
 
@@ -23,7 +29,7 @@ impl Reports {
         ensures { HasReported result [] }
     {
         Reports {
-            places: Vec::new(alloc),
+            places: Kept::new(alloc),
             is_short: false,
         }
     }
@@ -63,7 +69,7 @@ impl Reports {
     pub fn report_once(&mut self, name: &[u8], at: u32, start: usize)
         ensures { AddsSince start self.old self.new (λ k ps. drops.once_told k at ps name.now) }
     {
-        if is_about(places_from(&self.places, start), name) {
+        if self.places.is_about(name, start) {
             return;
         }
         self.report(at, Code::P1, name);
@@ -90,8 +96,145 @@ impl Reports {
         if self.is_short {
             Err(AllocError)
         } else {
-            Ok(self.places)
+            Ok(self.places.into_places())
         }
+    }
+}
+
+// Places in their order, with the subjects of some of them.
+#[derive(Drop)]
+struct Kept {
+    places: Vec<Place>,
+    told: Told,
+}
+
+impl Model for Kept {
+    ghost use Rattle.std.specs.Global.{Global};
+    ghost use Rattle.std.specs.Prelude.{Vec};
+    ghost use Rattle.sh_tree.specs.declared.place.Place.{Place};
+    ghost use Rattle.sh_demands.specs.Kept.{IsTold};
+
+    ghost Value = { Vec Place Global };
+
+    ghost view = { λ k. k.places };
+
+    ghost invariant = { λ k. IsTold k.told k.places.items };
+}
+
+impl Kept {
+    fn new(alloc: Global) -> Kept
+        ensures { result.items ≡ [] }
+    {
+        Kept {
+            places: Vec::new(alloc),
+            told: Told::new(alloc, 0),
+        }
+    }
+
+    fn allocator(&self) -> &Global {
+        self.places.allocator()
+    }
+
+    fn len(&self) -> usize
+        ensures { result ≡ length self.now.items }
+    {
+        self.places.len()
+    }
+
+    fn push(&mut self, place: Place) -> Result<(), AllocError>
+        ensures { OnOk result (self.new.items ≡ self.old.items ++ place ∷ []) }
+    {
+        self.places.push(place)?;
+        Ok(())
+    }
+
+    // Whether a place from `start` on is about the name.
+    fn is_about(&mut self, name: &[u8], start: usize) -> bool
+        ensures same { self.new ≡ self.old }
+        ensures about { result ≡ list_any (λ x. bytes_eq x.subject name.now) (drop start self.old.items) }
+    {
+        let places = places_from(&self.places, start);
+        if places.len() <= FEW {
+            return is_about(places, name);
+        }
+        self.told.restart(start);
+        self.told.is_about(places, name)
+    }
+
+    fn into_places(self) -> Vec<Place>
+        ensures { result.items ≡ self.items }
+    {
+        self.places
+    }
+}
+
+// The subjects of so many places, from one on.
+#[derive(Drop)]
+struct Told {
+    subjects: IndexSet<Vec<u8>>,
+    start: usize,
+    count: usize,
+}
+
+impl Told {
+    fn new(alloc: Global, start: usize) -> Told
+        ensures start { result.start ≡ start }
+        ensures told { (ps : List Place) → IsTold result ps }
+    {
+        Told {
+            subjects: IndexSet::new(alloc),
+            start,
+            count: 0,
+        }
+    }
+
+    // No place is told yet if they begin at another one.
+    fn restart(&mut self, start: usize)
+        ensures start { self.new.start ≡ start }
+        ensures told { (ps : List Place) → IsTold self.old ps → IsTold self.new ps }
+    {
+        if self.start != start {
+            *self = Told::new(*self.subjects.allocator(), start);
+        }
+    }
+
+    // Whether one of the places is about the name. If memory runs out, they are compared.
+    fn is_about(&mut self, places: &[Place], name: &[u8]) -> bool
+        requires { AreTold self.old.subjects.keys self.old.count places.now }
+        ensures told { AreTold self.new.subjects.keys self.new.count places.now }
+        ensures same { self.new.start ≡ self.old.start }
+        ensures about { result ≡ list_any (λ x. bytes_eq x.subject name.now) places.now }
+    {
+        match self.tell(places) {
+            Ok(()) => self.subjects.contains(name),
+            Err(_) => is_about(places, name),
+        }
+    }
+
+    fn tell(&mut self, places: &[Place]) -> Result<(), AllocError>
+        requires { AreTold self.old.subjects.keys self.old.count places.now }
+        ensures told { AreTold self.new.subjects.keys self.new.count places.now }
+        ensures same { self.new.start ≡ self.old.start }
+        ensures all { OnOk result (self.new.count ≡ length places.now) }
+    {
+        while self.count < places.len() {
+            self.tell_next(places)?;
+        }
+        Ok(())
+    }
+
+    fn tell_next(&mut self, places: &[Place]) -> Result<(), AllocError>
+        requires told { AreTold self.old.subjects.keys self.old.count places.now }
+        requires more { self.old.count < length places.now }
+        ensures told { AreTold self.new.subjects.keys self.new.count places.now }
+        ensures same { self.new.start ≡ self.old.start }
+        ensures next { OnOk result (self.new.count ≡ self.old.count + 1) }
+    {
+        let subject = places[self.count].subject.as_slice();
+        let own = Vec::from_slice(*self.subjects.allocator(), subject)?;
+        self.subjects.insert(own)?;
+        self.count += 1;
+        Ok(())
     }
 }
 

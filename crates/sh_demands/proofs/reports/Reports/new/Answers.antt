@@ -3,4 +3,4 @@ use Rattle.sh_demands.proofs.reports.Reports.new.Goals as goal
 
 pub returns : goal.returns
 unfolding AreKept
-returns c = c.new.ensures.items
+returns c = c.new.ensures
