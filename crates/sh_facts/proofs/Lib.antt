@@ -12,4 +12,5 @@ pub mod LengthLemmas
 pub mod CompactTextLemmas
 pub mod CompactingLemmas
 pub mod RowLengthLemmas
+pub mod RowTextLemmas
 pub mod RoomLemmas

@@ -13,6 +13,7 @@ mod length;
 mod lines;
 mod reading;
 mod row_length;
+mod row_texts;
 mod splits;
 mod texts;
 
