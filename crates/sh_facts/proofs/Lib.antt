@@ -13,4 +13,5 @@ pub mod CompactTextLemmas
 pub mod CompactingLemmas
 pub mod RowLengthLemmas
 pub mod RowTextLemmas
+pub mod FindingLemmas
 pub mod RoomLemmas

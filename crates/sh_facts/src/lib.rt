@@ -8,6 +8,7 @@ mod compact_lines;
 mod compact_reading;
 mod compact_texts;
 mod compacting;
+mod finding;
 mod forms;
 mod length;
 mod lines;
