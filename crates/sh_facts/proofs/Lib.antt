@@ -12,4 +12,6 @@ pub mod LengthLemmas
 pub mod CompactTextLemmas
 pub mod CompactingLemmas
 pub mod RowLengthLemmas
+pub mod RowTextLemmas
+pub mod FindingLemmas
 pub mod RoomLemmas

@@ -4,3 +4,4 @@ pub mod Compacting
 pub mod Fields
 pub mod ReadParts
 pub mod Room
+pub mod RowTexts

@@ -6,8 +6,9 @@ ghost use Rattle.sh_domain.specs.CompactRoundTrips.{CompactHasText, compact_clai
 ghost use Rattle.sh_domain.specs.Compacts as text;
 ghost use Rattle.sh_domain.specs.Sheets.{line};
 
+use crate::row_texts::RowTexts;
 use crate::texts::{push_fact, push_functions};
-use sh_domain::{Compact, Facts, Names, Rows};
+use sh_domain::{Compact, Facts, Names};
 use std::alloc::{AllocError, Global};
 use std::io::Write;
 
@@ -32,9 +33,10 @@ pub fn write_compact(alloc: Global, compact: &Compact, names: &Names) -> Result<
         compact.functions.len(),
         compact.heads.len(),
     )?;
-    push_start(&mut out, &compact.rows, names, compact.start)?;
-    push_turns(&mut out, compact, names)?;
-    push_functions(&mut out, &compact.rows, names, &compact.functions)?;
+    let mut texts = RowTexts::new(alloc, &compact.rows, names);
+    push_start(&mut out, &mut texts, compact.start)?;
+    push_turns(&mut out, &mut texts, compact)?;
+    push_functions(&mut out, &mut texts, &compact.functions)?;
     Ok(out)
 }
 
@@ -63,23 +65,29 @@ fn push_counts(
 }
 
 #[tactic(auto, unfolding(sh_domain::specs::Sheets::joined))]
-fn push_start(out: &mut Vec<u8>, rows: &Rows, names: &Names, facts: Facts) -> Result<(), AllocError>
-    ensures { OnOk result (out.new.items ≡ out.old.items ++ line (text.start_fields (claim_of (in_byte_order names.now) rows.now facts))) }
+fn push_start(out: &mut Vec<u8>, texts: &mut RowTexts<'_>, facts: Facts) -> Result<(), AllocError>
+    ensures text { OnOk result (out.new.items ≡ out.old.items ++ line (text.start_fields (claim_of (in_byte_order texts.old.names) texts.old.rows facts))) }
+    ensures same { texts.new ≡ texts.old }
 {
     out.push(b's')?;
-    push_fact(out, rows, names, facts)?;
+    push_fact(out, texts, facts)?;
     out.push(b'\n')?;
     Ok(())
 }
 
-fn push_turns(out: &mut Vec<u8>, compact: &Compact, names: &Names) -> Result<(), AllocError>
-    ensures { OnOk result (out.new.items ≡ out.old.items ++ text.turn_lines (text.turns_of (in_byte_order names.now) compact.now.rows compact.now.heads.entries)) }
+fn push_turns(
+    out: &mut Vec<u8>,
+    texts: &mut RowTexts<'_>,
+    compact: &Compact,
+) -> Result<(), AllocError>
+    ensures text { OnOk result (out.new.items ≡ out.old.items ++ text.turn_lines (text.turns_of (in_byte_order texts.old.names) texts.old.rows compact.now.heads.entries)) }
+    ensures same { texts.new ≡ texts.old }
 {
     for index in 0..compact.heads.len() {
         let Some((number, facts)) = compact.heads.get_index(index) else {
             unreachable!()
         };
-        push_turn(out, &compact.rows, names, *number, *facts)?;
+        push_turn(out, texts, *number, *facts)?;
     }
     Ok(())
 }
@@ -87,15 +95,15 @@ fn push_turns(out: &mut Vec<u8>, compact: &Compact, names: &Names) -> Result<(),
 #[tactic(auto, unfolding(sh_domain::specs::Sheets::joined))]
 fn push_turn(
     out: &mut Vec<u8>,
-    rows: &Rows,
-    names: &Names,
+    texts: &mut RowTexts<'_>,
     number: u32,
     facts: Facts,
 ) -> Result<(), AllocError>
-    ensures { OnOk result (out.new.items ≡ out.old.items ++ line (text.turn_fields (number, claim_of (in_byte_order names.now) rows.now facts))) }
+    ensures text { OnOk result (out.new.items ≡ out.old.items ++ line (text.turn_fields (number, claim_of (in_byte_order texts.old.names) texts.old.rows facts))) }
+    ensures same { texts.new ≡ texts.old }
 {
     write!(out, "h {number}").map_err(|_error| AllocError)?;
-    push_fact(out, rows, names, facts)?;
+    push_fact(out, texts, facts)?;
     out.push(b'\n')?;
     Ok(())
 }

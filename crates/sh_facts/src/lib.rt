@@ -8,11 +8,13 @@ mod compact_lines;
 mod compact_reading;
 mod compact_texts;
 mod compacting;
+mod finding;
 mod forms;
 mod length;
 mod lines;
 mod reading;
 mod row_length;
+mod row_texts;
 mod splits;
 mod texts;
 

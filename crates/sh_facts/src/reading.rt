@@ -8,6 +8,7 @@ ghost use Rattle.sh_domain.specs.Names.{are_distinct, is_among};
 ghost use Rattle.sh_domain.specs.Reading as fit;
 ghost use Rattle.sh_facts.specs.ReadParts as part;
 
+use crate::finding::number_from;
 use crate::forms::{CommandTexts, FactText, FunctionTexts, SetTexts};
 use crate::lines::{behind_counts, behind_version, command_line, function_line, test_lines};
 use crate::splits::first_piece;
@@ -308,9 +309,10 @@ fn add_names(names: &Names, row: &mut BitRow, text: &[u8]) -> Result<(), Refusal
     ensures refusal { IfErr result (part.Misfits (fit.are_known names.now (form.pieces 44 text.now))) }
 {
     let mut left = Some(text);
+    let mut place = 0;
     while let Some(rest) = left {
         let (name, behind) = first_piece(rest, b',');
-        let Some(number) = names.number(name) else {
+        let Some(number) = number_from(names, name, &mut place) else {
             return Err(Refusal::CertShape);
         };
         row.add(number)?;

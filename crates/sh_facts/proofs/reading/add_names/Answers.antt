@@ -10,14 +10,14 @@ pub loop-left-init : goal.loop-left-init
 unfolding pieces_left
 loop-left-init c = record { numbers = λ k. refl; known = refl; count = refl }
 
-pub returns-in_default-number-clause-refusal : goal.returns-in_default-number-clause-refusal
-returns-in_default-number-clause-refusal c =
+pub returns-in_default-number_from-clause-refusal : goal.returns-in_default-number_from-clause-refusal
+returns-in_default-number_from-clause-refusal c =
     let x = c.first_piece.result in
     not_known c.args.names.now c.loop-left.row (bits_of c.args.row.now) (pieces 44 c.args.text.now) c.loop-left.left x.1 c.in-Some.rest x.0 c.in-Some.is c.first_piece.ensures.pieces (search rules) c.loop-left.invariant.known
 
 pub add-requires : goal.add-requires
 add-requires c =
-    let below = number_below c.args.names.now c.first_piece.result.0.now c.in-Some-number.number c.in-Some-number.ensures.number in
+    let below = number_below c.args.names.now c.first_piece.result.0.now c.in-Some-number_from.number c.in-Some-number_from.ensures in
     omega (arith, below, c.loop-left.invariant.count, c.requires.count)
 
 pub loop-left-smaller : goal.loop-left-smaller
@@ -27,9 +27,9 @@ pub loop-left-preserved : goal.loop-left-preserved
 loop-left-preserved c =
     let x = c.first_piece.result in
     record {
-      numbers = numbers_on c.args.names.now c.loop-left.row (bits_of c.args.row.now) (pieces 44 c.args.text.now) c.loop-left.left x.1 c.in-Some.rest x.0 c.in-Some.is c.first_piece.ensures.pieces c.add.new.self c.in-Some-number.number
-          c.requires.distinct c.in-Some-number.ensures.number c.in_ok-add.ensures.ok c.loop-left.invariant.numbers;
-      known = known_on c.args.names.now c.loop-left.row (bits_of c.args.row.now) (pieces 44 c.args.text.now) c.loop-left.left x.1 c.in-Some.rest x.0 c.in-Some.is c.first_piece.ensures.pieces c.in-Some-number.number c.in-Some-number.ensures.number
+      numbers = numbers_on c.args.names.now c.loop-left.row (bits_of c.args.row.now) (pieces 44 c.args.text.now) c.loop-left.left x.1 c.in-Some.rest x.0 c.in-Some.is c.first_piece.ensures.pieces c.add.new.self c.in-Some-number_from.number
+          c.requires.distinct c.in-Some-number_from.ensures c.in_ok-add.ensures.ok c.loop-left.invariant.numbers;
+      known = known_on c.args.names.now c.loop-left.row (bits_of c.args.row.now) (pieces 44 c.args.text.now) c.loop-left.left x.1 c.in-Some.rest x.0 c.in-Some.is c.first_piece.ensures.pieces c.in-Some-number_from.number c.in-Some-number_from.ensures
           c.loop-left.invariant.known;
       count = c.add.ensures.limit ∙ c.loop-left.invariant.count;
     }
