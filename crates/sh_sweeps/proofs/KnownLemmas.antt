@@ -1,6 +1,6 @@
 -- What is known where lists are entered, by the claims of a certificate that stays above all that
 -- keep the rules.
-use Rattle.std.proofs.Common.{◌≡◌, ◌==◌, ◌-◌, ◌++◌, ℕ, Bool, true, false, List, take, [], ◌∷◌, length, fold, refl, sym, ap, ◌∙◌, subst, arith, true≢false}
+use Rattle.std.proofs.Common.{◌≡◌, ◌==◌, ◌-◌, ◌++◌, ℕ, Bool, true, false, not, List, take, [], ◌∷◌, length, fold, refl, sym, ap, ◌∙◌, subst, arith, true≢false}
 use Rattle.std.proofs.lemmas.Bool.Decides.{nat_tests}
 use Rattle.sh_tree.specs.declared.tree.Item.{Item, out-Item}
 use Rattle.sh_tree.specs.declared.tree.Command.{Command}
@@ -14,7 +14,7 @@ use Rattle.sh_domain.specs.declared.knowledge.Knowledge.{Knowledge}
 use Rattle.sh_domain.specs.declared.rule.FlowRule.{FlowRule}
 use Rattle.sh_domain.specs.declared.rule.FlowRule.TheVariants.{F2}
 use Rattle.sh_domain.specs.Entries.{item_after, item_seen, items_after, link_seen, linked, pipeline_after}
-use Rattle.sh_domain.specs.Facts.{Facts, NotReached}
+use Rattle.sh_domain.specs.Facts.{Facts, NotReached, Known, Nowhere, claims}
 use Rattle.sh_domain.specs.Gains.{Gains}
 use Rattle.sh_domain.proofs.OrderLemmas.{meet_first, within_nowhere, within_through}
 use Rattle.sh_domain.specs.Knowledge.{AreNumbered, knowledge_facts}
@@ -39,6 +39,11 @@ use Rattle.sh_drafts.specs.Ready.{IsOver}
 use Rattle.sh_sweeps.proofs.SweepLemmas.{behind_of, knows_follow, stands_of}
 
 -- By what the flow rules go by
+
+pub unreached : (f : Facts) (b : Bool) → b ≡ not (claims f Nowhere) → b ≡ false → f ≡ NotReached
+unfolding claims
+unreached NotReached b e h = refl
+unreached (Known v g a) b e h = absurd (true≢false (sym e ∙ h))
 
 module _ (s : Subject) (c : kept.Certificate) (z : Claims) (same : setting z ≡ setting_by s c) where
   pub facts_by : (F : Setting → Facts) (k : Knowledge) → facts_in (setting z) k ≡ F (setting z) → facts_in (setting_by s c) k ≡ F (setting_by s c)

@@ -259,7 +259,7 @@ module _ (s : Subject) where
         knows_fallen = subst (Knows s (e.falls (out-Clause c).end o)) (sym left) (falls_led (setting_by s x) (Knows s) (knows_follow s x h over) (out-Clause c).end o b (stands_of s o b (behind q met)));
       }
 
-  -- or if what is known after it is left out
+  -- or if nothing of what is known after it is kept
   pub clauses_idle : (y : Around) (k fallen : Facts) (c : Clause) (cs : List Clause) → AreClauses s y k fallen (clauses_from s.script.now (c ∷ cs)) → AreClauses s y k NotReached (clauses_from s.script.now cs)
   unfolding e.items_entered clauses_from
   clauses_idle y k fallen c cs here =

@@ -221,6 +221,9 @@ pub fn behind_operands(
     ensures { (q : Seen) → Knows subject.now q (knowledge_facts subject.now.names.now known.now)
         → Knows subject.now (behind_words (elements_from subject.now.script.now elements.now) q) (knowledge_facts subject.now.names.now result) }
 {
+    if !known.is_reached() {
+        return Knowledge::NotReached;
+    }
     let mut behind = *known;
     gain_operands(elements, subject.script, subject.names, &mut behind);
     behind

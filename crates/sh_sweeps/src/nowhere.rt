@@ -1,11 +1,13 @@
 //! Where nothing is new, what is known is not needed: what was known there before has lowered what
-//! it lowers. Then it is left out, as where no run comes.
-ghost use Rattle.std.specs.Prelude.{ℕ};
+//! it lowers. A sweep goes on there as where no run comes.
+ghost use Rattle.std.specs.Prelude.{◌≡◌, ℕ, List};
 ghost use Rattle.sh_tree.specs.Lists.{redirects_from};
 ghost use Rattle.sh_tree.specs.declared.tree.Command.{out-Command};
 ghost use Rattle.sh_tree.specs.declared.tree.Item as tree;
+ghost use Rattle.sh_tree.specs.standard.program.Syntax.{Text};
 ghost use Rattle.sh_tree.specs.standard.program.Trees as trees;
 ghost use Rattle.sh_domain.specs.Entries.{behind_redirects, link_seen, linked, pipeline_after};
+ghost use Rattle.sh_domain.specs.Facts.{NotReached};
 ghost use Rattle.sh_domain.specs.Knowledge.{knowledge_facts};
 ghost use Rattle.sh_domain.specs.Views as views;
 ghost use Rattle.sh_domain.specs.Views.{After, Seen, at};
@@ -19,7 +21,7 @@ use sh_drafts::Subject;
 use sh_rules::{Behind, Course};
 use sh_tree::{Command, Item, Link, Pipe};
 
-/// After what is left out.
+/// Nothing is known, whatever the status was.
 pub fn nothing_behind() -> Behind
     ensures { (s : subjects.Subject) (o : After) → KnowsBehind s o (known_behind s result) }
 {
@@ -29,7 +31,7 @@ pub fn nothing_behind() -> Behind
     }
 }
 
-/// Leaves out what is known after an item.
+/// Goes on after an item, and keeps nothing of what is known.
 pub fn leave_item(course: &mut Course)
     ensures { (s : subjects.Subject) (i : tree.Item) → IsPassed s course.old course.new i }
 {
@@ -37,7 +39,7 @@ pub fn leave_item(course: &mut Course)
     course.by = FlowRule::F2;
 }
 
-/// Leaves out what is known after items.
+/// Goes on after items, and keeps nothing of what is known.
 pub fn leave_all(course: &mut Course, items: &[Item])
     ensures { (s : subjects.Subject) → ArePassed s course.old course.new items.now }
 {
@@ -101,8 +103,18 @@ pub fn pipe_if(
     }
 }
 
+// Keeps nothing of what is known. Most often nothing is, and then nothing is written.
+#[tactic(auto, using(crate::proofs::KnownLemmas::unreached), unfolding(sh_domain::specs::Knowledge::knowledge_facts))]
+fn forget(known: &mut Knowledge)
+    ensures { (names : List Text) → knowledge_facts names known.new ≡ NotReached }
+{
+    if known.is_reached() {
+        *known = Knowledge::NotReached;
+    }
+}
+
 /// Goes on after the pipeline that follows `&&` or `||`. If nothing is new after it, what was known
-/// by the status that it gives is left out.
+/// by the status that it gives is not kept.
 pub fn link_if(
     subject: &Subject<'_>,
     certificate: &Certificate,
@@ -119,7 +131,7 @@ pub fn link_if(
         return;
     }
     match link.0 {
-        Link::AndThen => behind.zero = Knowledge::NotReached,
-        Link::OrElse => behind.nonzero = Knowledge::NotReached,
+        Link::AndThen => forget(&mut behind.zero),
+        Link::OrElse => forget(&mut behind.nonzero),
     }
 }

@@ -1,12 +1,18 @@
 use Rattle.sh_tree.specs.Lists.{elements_from}
 use Rattle.sh_tree.specs.standard.program.Words.{operands_in}
 use Rattle.sh_domain.specs.Gains.{words_gains}
+use Rattle.sh_domain.specs.Knowledge.{knowledge_facts}
+use Rattle.sh_domain.proofs.OrderLemmas.{within_nowhere}
 use Rattle.sh_rules.specs.Walks.{facts_in}
 use Rattle.sh_rules.proofs.GainLemmas.{facts_gained}
 use Rattle.sh_sweeps.specs.Sweeps.{setting_by}
 use Rattle.sh_drafts.proofs.ReadyLemmas.{numbered}
 use Rattle.sh_sweeps.proofs.KnownLemmas.{gains_known}
 use Rattle.sh_sweeps.proofs.known.behind_operands.Goals as goal
+
+pub returns-then-not-is_reached : goal.returns-then-not-is_reached
+unfolding knowledge_facts
+returns-then-not-is_reached c q knows other keeps = within_nowhere _
 
 pub returns : goal.returns
 unfolding facts_in
