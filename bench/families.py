@@ -352,6 +352,32 @@ def reached_back(opens, part, filler, closes):
     return of
 
 
+def long_body(opens, piece, closes=""):
+    """The body of a function is one long command. Each of its callers enters it with a name less."""
+
+    def of(size):
+        count = count_of(size // 2, "v1000=\nunset v1000; f\n", MOST_NAMES // 2)
+        room = size - len(text_of(f"v{n}=\nunset v{n}; f" for n in range(count))) - len(opens) - len(closes) - 12
+        body = opens + piece * max(1, room // len(piece)) + closes
+        return text_of([*(f"v{n}=" for n in range(count)), f"f() {{ {body}; }}", *(f"unset v{n}; f" for n in range(count))])
+
+    return of
+
+
+def call_waves(order):
+    """A chain of calls that is entered everywhere, each time with a parameter less."""
+
+    def of(size):
+        count = count_of(size, 'f1000() { f1000 "$@"; }\nshift; f1000 "$@"')
+        numbers = list(range(1, count))
+        if order == "mixed":
+            random.Random(3).shuffle(numbers)
+        chain = [f'f{n}() {{ f{n - 1} "$@"; }}' for n in numbers]
+        return text_of(["f0() { b; }", *chain, *(f'shift; f{n} "$@"' for n in range(count))])
+
+    return of
+
+
 def each(line, most=MOST_NAMES):
     """A line for each of so many numbers, and again from the first: N is the number, K the next, M another."""
     return line, most
@@ -607,7 +633,16 @@ FAMILIES = {
     "reached back in operands": (reached_back("echo ", "$(C) ", '"$a" ', "\n"), ()),
     "reached back in a here-document": (reached_back("cat <<E\n", "$(C)\n", "$(b)\n", "E\n"), ()),
     "reached back in items": (reached_back("", "a|b && ( C )\n", "a|b && c\n", ""), ()),
+    "reached back in links": (reached_back("a", " || ( C )", "||a", "\n"), ()),
+    "reached back in pipelines": (reached_back("", "( C ) | b\n", "a|b\n", ""), ()),
+    "long body of words": (long_body("echo ", "a "), ()),
+    "long body of a word": (long_body("echo $(b)", '"a"'), ()),
+    "long body of operands": (long_body("unset ", "z "), ()),
+    "long body of clauses": (long_body("case x in ", "a);;", "esac"), ()),
+    "long body of assignments": (long_body("x=$(b) ", "a= "), ()),
     "jumps": (jumps, ()),
+    "call waves": (call_waves("rising"), ("--args", "65535")),
+    "call waves mixed": (call_waves("mixed"), ("--args", "65535")),
     "calls back": (calls_back, ()),
     "calls late": (calls_late, ()),
     "definitions": (many_definitions, ()),

@@ -14,7 +14,7 @@ ghost use Rattle.sh_sweeps.specs.Sweeps.{AreBranches, AreClauses, IsIn};
 ghost use Rattle.sh_drafts.specs.Ready.{IsReady, IsSwept};
 
 use crate::sweep::{sweep_items, sweep_list};
-use crate::words::{does_list_wait, pass_word, sweep_patterns};
+use crate::words::{does_list_wait, may_wait_in, pass_word, sweep_patterns};
 use sh_domain::{FlowRule, Knowledge};
 use sh_drafts::{Draft, Subject};
 use sh_rules::{Around, begun, meet};
@@ -100,9 +100,28 @@ fn sweep_branch(
         → AreBranches subject.now (walks.around subject.now.script.now around.now) (knowledge_facts subject.now.names.now known.new) (branches_from subject.now.script.now others) z) }
 {
     if !known.is_reached() && !does_branch_wait(&draft.waiting, branch) {
-        *known = Knowledge::NotReached;
         return Ok(());
     }
+    enter_branch(subject, draft, levels, around, known, branch)
+}
+
+#[cycle(sweep)]
+fn enter_branch(
+    subject: &Subject<'_>,
+    draft: &mut Draft,
+    levels: u32,
+    around: &Around<'_>,
+    known: &mut Knowledge,
+    branch: &Branch,
+) -> Result<(), AllocError>
+    requires ready { IsReady subject.now draft.old.certificate draft.old.probe.count }
+    requires placed { (others : List if_branch.Branch) × (z : p.Otherwise) × AreBranches subject.now (walks.around subject.now.script.now around.now) (knowledge_facts subject.now.names.now known.old)
+        (branches_from subject.now.script.now (branch.now ∷ others)) z }
+    ensures swept { IfOk result (λ unit. IsSwept subject.now draft.old.certificate draft.new.certificate draft.new.probe.count) }
+    ensures passed { IfOk result (λ unit. (others : List if_branch.Branch) (z : p.Otherwise)
+        → AreBranches subject.now (walks.around subject.now.script.now around.now) (knowledge_facts subject.now.names.now known.old) (branches_from subject.now.script.now (branch.now ∷ others)) z
+        → AreBranches subject.now (walks.around subject.now.script.now around.now) (knowledge_facts subject.now.names.now known.new) (branches_from subject.now.script.now others) z) }
+{
     let mut course = begun(FlowRule::F6, &*known);
     sweep_items(
         subject,
@@ -184,18 +203,17 @@ fn sweep_clause(
         → AreClauses subject.now (walks.around subject.now.script.now around.now) (knowledge_facts subject.now.names.now behind.now) (knowledge_facts subject.now.names.now fallen.old) (clauses_from subject.now.script.now (clause.now ∷ others))
         → AreClauses subject.now (walks.around subject.now.script.now around.now) (knowledge_facts subject.now.names.now behind.now) (knowledge_facts subject.now.names.now fallen.new) (clauses_from subject.now.script.now others)) }
 {
-    sweep_patterns(subject, draft, levels, behind, clause.patterns.as_slice())?;
-    if is_idle(&draft.waiting, behind, &*fallen, clause) {
-        *fallen = Knowledge::NotReached;
+    if !behind.is_reached() && !fallen.is_reached() && !does_clause_wait(&draft.waiting, clause) {
         return Ok(());
     }
+    sweep_patterns(subject, draft, levels, behind, clause.patterns.as_slice())?;
     sweep_body(subject, draft, levels, around, behind, fallen, clause)
 }
 
-// Whether nothing is new to the list of a clause, and none waits in it: a hint.
-fn is_idle(waiting: &Waiting, behind: &Knowledge, fallen: &Knowledge, clause: &Clause) -> bool {
-    let is_reached = behind.is_reached() || fallen.is_reached();
-    !is_reached && !does_list_wait(waiting, &clause.body)
+// Whether a command may wait in a clause: a hint.
+fn does_clause_wait(waiting: &Waiting, clause: &Clause) -> bool {
+    let patterns = clause.patterns.as_slice();
+    does_list_wait(waiting, &clause.body) || patterns.iter().any(|word| may_wait_in(waiting, word))
 }
 
 // Lowers the certificate at the list of a clause, and goes on after it.

@@ -4,6 +4,7 @@
 mod bodies;
 mod choices;
 mod links;
+mod looks;
 mod own;
 mod rounds;
 mod sweep;

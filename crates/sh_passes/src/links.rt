@@ -2,6 +2,7 @@
 ghost use Rattle.std.specs.Prelude.{◌∷◌, List, IfOk};
 ghost use Rattle.sh_tree.specs.declared.tree.Link as list_link;
 ghost use Rattle.sh_tree.specs.declared.tree.Pipe as pipeline;
+ghost use Rattle.sh_rules.specs.Behind as spec;
 ghost use Rattle.sh_rules.specs.Walks as walks;
 ghost use Rattle.sh_sweeps.specs.Sweeps.{AreLinks, known_behind};
 ghost use Rattle.sh_drafts.specs.Ready.{IsReady, IsSwept};
@@ -10,13 +11,13 @@ use crate::sweep::sweep_pipe;
 use sh_domain::FlowRule;
 use sh_drafts::{Draft, Subject};
 use sh_rules::{Around, Behind};
-use sh_sweeps::nowhere::link_if;
+use sh_sweeps::nowhere::{link_if, nothing_behind};
 use sh_tree::{Link, Pipe};
-use sh_worklist::does_pipe_wait;
+use sh_worklist::{do_links_wait, does_pipe_wait};
 use std::alloc::AllocError;
 
-/// Lowers the certificate at the pipelines after `&&` or `||`. Before one at which nothing is new,
-/// what is known is left out.
+/// Lowers the certificate at the pipelines after `&&` or `||`. Nothing is known before one to which
+/// nothing is new.
 ///
 /// # Errors
 ///
@@ -36,6 +37,34 @@ pub fn sweep_links(
 {
     for link in links {
         link_or_pass(subject, draft, levels, around, behind, link)?;
+    }
+    Ok(())
+}
+
+/// Goes over the pipelines after `&&` and `||` again, until none of them waits. So the list that they
+/// are in is joined once.
+///
+/// # Errors
+///
+/// If a growth was refused.
+#[cycle(sweep)]
+pub fn sweep_links_again(
+    subject: &Subject<'_>,
+    draft: &mut Draft,
+    levels: u32,
+    around: &Around<'_>,
+    links: &[(Link, Pipe)],
+) -> Result<(), AllocError>
+    requires ready { IsReady subject.now draft.old.certificate draft.old.probe.count }
+    requires placed { (k : spec.Behind) × AreLinks subject.now (walks.around subject.now.script.now around.now) k links.now }
+    ensures swept { IfOk result (λ unit. IsSwept subject.now draft.old.certificate draft.new.certificate draft.new.probe.count) }
+{
+    for _round in 0..u32::MAX {
+        if !do_links_wait(&draft.waiting, links) {
+            return Ok(());
+        }
+        let mut behind = nothing_behind();
+        sweep_links(subject, draft, levels, around, &mut behind, links)?;
     }
     Ok(())
 }

@@ -15,6 +15,7 @@ ghost use Rattle.sh_drafts.specs.Ready.{IsReady, IsSwept, Keeps};
 ghost use Rattle.sh_drafts.specs.Turns.{AreNumbers, IsQuiet, Stands};
 ghost use Rattle.sh_sweeps.specs.Asked.{gathered_of};
 
+use crate::looks::looks_of;
 use sh_domain::{Certificate, Facts, FlowRule, Knowledge, is_loop};
 use sh_drafts::kept::{drops_of, facts_at};
 use sh_drafts::{Draft, Part, Place, Subject, Target, lower_at, note_lowered};
@@ -158,7 +159,7 @@ fn lower_once(
     draft.entered = draft
         .entered
         .saturating_add(u64::from(is_lowered && is_first));
-    draft.looks = draft.looks.saturating_add(1);
+    draft.looks = draft.looks.saturating_add(looks_of(command));
     Ok((gather.kept, gather.next))
 }
 
@@ -316,7 +317,7 @@ fn lower_sides(
         command,
         &mut sides,
     );
-    draft.looks = draft.looks.saturating_add(1);
+    draft.looks = draft.looks.saturating_add(looks_of(command));
     if sides.gather.kept {
         return Ok((true, sides.gather.next));
     }

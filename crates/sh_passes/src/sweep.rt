@@ -18,7 +18,7 @@ ghost use Rattle.sh_drafts.specs.Ready.{IsReady, IsSwept};
 
 use crate::bodies::{is_called_again, sweep_called};
 use crate::choices::{sweep_case, sweep_cond};
-use crate::links::sweep_links;
+use crate::links::{sweep_links, sweep_links_again};
 use crate::own::{is_entered, lower_behind, lower_command};
 use crate::rounds::sweep_rounds;
 use crate::words::{sweep_elements, sweep_for_words, sweep_redirections};
@@ -240,7 +240,8 @@ fn sweep_and_or(
         return Ok(());
     }
     let mut behind = pipe_if(subject, &draft.certificate, known, &list.first, is_new);
-    sweep_links(subject, draft, levels, around, &mut behind, links)
+    sweep_links(subject, draft, levels, around, &mut behind, links)?;
+    sweep_links_again(subject, draft, levels, around, links)
 }
 
 /// Lowers the certificate at the commands of a pipeline.

@@ -35,6 +35,29 @@ pub fn does_list_wait(waiting: &Waiting, list: &Script) -> bool {
     items.iter().any(|item| does_item_wait(waiting, item))
 }
 
+// Whether a command may wait in a part of a word.
+fn may_wait_in_part(waiting: &Waiting, part: &Part) -> bool {
+    match part {
+        Part::Command(_, _, list) => does_list_wait(waiting, list),
+        Part::Double(..) | Part::Param(_) | Part::Arith(..) => true,
+        _ => false,
+    }
+}
+
+/// Whether a command may wait in a word: a hint.
+pub fn may_wait_in(waiting: &Waiting, word: &Word) -> bool {
+    if !is_in_word(word) {
+        return false;
+    }
+    word.parts.as_slice().iter().any(|part| match part {
+        Part::Double(_, parts) => parts
+            .as_slice()
+            .iter()
+            .any(|inner| may_wait_in_part(waiting, inner)),
+        _ => may_wait_in_part(waiting, part),
+    })
+}
+
 /// Lowers the certificate at the commands in the words of a simple command. Each word is expanded
 /// after those before it, and values and redirections after all of them.
 ///
@@ -81,10 +104,26 @@ fn sweep_element(
         Element::Assignment { value, .. } => sweep_word(subject, draft, levels, behind, value),
         Element::Word(word) => pass_word(subject, draft, levels, known, word),
         Element::Redirection(redirect) => {
-            let mut aside = *behind;
-            pass_target(subject, draft, levels, &mut aside, &redirect.target)
+            sweep_target(subject, draft, levels, behind, &redirect.target)
         }
     }
+}
+
+// Lowers the certificate at the commands in the word of a redirection.
+#[cycle(sweep)]
+fn sweep_target(
+    subject: &Subject<'_>,
+    draft: &mut Draft,
+    levels: u32,
+    known: &Knowledge,
+    target: &Target,
+) -> Result<(), AllocError>
+    requires ready { IsReady subject.now draft.old.certificate draft.old.probe.count }
+    requires placed { IsIn subject.now (λ q. redirect_entered q (target_of subject.now.script.now target.now)) (knowledge_facts subject.now.names.now known.now) }
+    ensures swept { IfOk result (λ unit. IsSwept subject.now draft.old.certificate draft.new.certificate draft.new.probe.count) }
+{
+    let mut aside = *known;
+    pass_target(subject, draft, levels, &mut aside, target)
 }
 
 /// Lowers the certificate at the commands in the redirections of a command: each is made after
@@ -234,6 +273,9 @@ pub fn pass_word(
     ensures swept { IfOk result (λ unit. IsSwept subject.now draft.old.certificate draft.new.certificate draft.new.probe.count) }
     ensures gained { IfOk result (λ unit. Gained subject.now (word_gains (parts_from subject.now.script.now word.now.parts)) (knowledge_facts subject.now.names.now known.old) (knowledge_facts subject.now.names.now known.new)) }
 {
+    if !known.is_reached() && !may_wait_in(&draft.waiting, word) {
+        return Ok(());
+    }
     sweep_word(subject, draft, levels, &*known, word)?;
     *known = behind_word(subject, &draft.certificate, word, &*known);
     Ok(())
@@ -251,7 +293,7 @@ fn sweep_word(
     requires placed { IsWord subject.now (knowledge_facts subject.now.names.now known.now) (parts_from subject.now.script.now word.now.parts) }
     ensures swept { IfOk result (λ unit. IsSwept subject.now draft.old.certificate draft.new.certificate draft.new.probe.count) }
 {
-    if !is_in_word(word) {
+    if !is_in_word(word) || (!known.is_reached() && !may_wait_in(&draft.waiting, word)) {
         return Ok(());
     }
     let mut inside = *known;
@@ -349,6 +391,21 @@ fn sweep_substitution(
     if !known.is_reached() && !does_list_wait(&draft.waiting, list) {
         return Ok(());
     }
+    enter_substitution(subject, draft, levels, known, list)
+}
+
+#[cycle(sweep)]
+fn enter_substitution(
+    subject: &Subject<'_>,
+    draft: &mut Draft,
+    levels: u32,
+    known: &Knowledge,
+    list: &Script,
+) -> Result<(), AllocError>
+    requires ready { IsReady subject.now draft.old.certificate draft.old.probe.count }
+    requires placed { (offset : ℕ) × IsIn subject.now (λ q. part_entered q (p.Substitution offset (script_of subject.now.script.now list.now))) (knowledge_facts subject.now.names.now known.now) }
+    ensures swept { IfOk result (λ unit. IsSwept subject.now draft.old.certificate draft.new.certificate draft.new.probe.count) }
+{
     let outside = alone();
     let seen = started_in(subject, &draft.certificate, known);
     sweep_list(subject, draft, levels, &outside, FlowRule::F11, &seen, list)

@@ -27,7 +27,7 @@ use Rattle.sh_domain.specs.Gains.{and_gains, assigned_in, expanded_gains, named,
 use Rattle.sh_domain.specs.Knowledge.{knowledge_facts}
 use Rattle.sh_domain.specs.Table.{behind_words}
 use Rattle.sh_domain.specs.Views.{Before, Both, Head, Seen, at, gaining, without_job}
-use Rattle.sh_rules.specs.Behind.{both, in_any_case}
+use Rattle.sh_rules.specs.Behind.{Behind, both, in_any_case}
 use Rattle.sh_rules.specs.Walks as walks
 use Rattle.sh_rules.specs.Walks.{facts_in}
 use Rattle.sh_rules.proofs.LedLemmas.{turns_led}
@@ -103,20 +103,37 @@ sweep::sweep_and_or-sweep_links-requires t c =
     (links_placed s c.args.by y (knowledge_facts s.names.now c.args.known.now) c.args.list.now (known_behind s c.pipe_if-behind.result) c.pipe_if-behind.ensures c.requires.placed) in
     search std_rules
 
-pub choices::sweep_branch-sweep_items-requires : goal.choices::sweep_branch-sweep_items-requires
-choices::sweep_branch-sweep_items-requires = choices.sweep_branch-sweep_items-requires
+pub sweep::sweep_and_or-sweep_links_again-requires : goal.sweep::sweep_and_or-sweep_links_again-requires
+sweep::sweep_and_or-sweep_links_again-requires t c =
+    let s = c.args.subject.now in
+    let y = walks.around s.script.now c.args.around.now in
+    let ready : IsReady s c.sweep_links.new.draft.certificate c.sweep_links.new.draft.probe.count = ready_again s _ _ _ _ (ready_again s _ _ _ _ c.requires.ready c.in_ok-sweep_pipe.ensures.swept) c.in_ok-sweep_links.ensures.swept in
+    let here : AreLinks s y (known_behind s c.pipe_if-behind.result) c.as_slice-links.result.now =
+    subst (AreLinks s y (known_behind s c.pipe_if-behind.result)) (sym c.as_slice-links.ensures)
+    (links_placed s c.args.by y (knowledge_facts s.names.now c.args.known.now) c.args.list.now (known_behind s c.pipe_if-behind.result) c.pipe_if-behind.ensures c.requires.placed) in
+    let placed : (k : Behind) × AreLinks s y k c.as_slice-links.result.now = (_, here) in
+    search std_rules
 
-pub choices::sweep_branch-sweep_list-requires : goal.choices::sweep_branch-sweep_list-requires
-choices::sweep_branch-sweep_list-requires = choices.sweep_branch-sweep_list-requires
+pub links::sweep_links_again-sweep_links-requires : goal.links::sweep_links_again-sweep_links-requires
+links::sweep_links_again-sweep_links-requires = links.sweep_links_again-sweep_links-requires
 
-pub choices::sweep_branch-returns-clause-swept : goal.choices::sweep_branch-returns-clause-swept
-choices::sweep_branch-returns-clause-swept = choices.sweep_branch-returns-clause-swept
+pub links::sweep_links_again-loop-round-preserved : goal.links::sweep_links_again-loop-round-preserved
+links::sweep_links_again-loop-round-preserved = links.sweep_links_again-loop-round-preserved
+
+pub choices::enter_branch-sweep_items-requires : goal.choices::enter_branch-sweep_items-requires
+choices::enter_branch-sweep_items-requires = choices.enter_branch-sweep_items-requires
+
+pub choices::enter_branch-sweep_list-requires : goal.choices::enter_branch-sweep_list-requires
+choices::enter_branch-sweep_list-requires = choices.enter_branch-sweep_list-requires
+
+pub choices::enter_branch-returns-clause-swept : goal.choices::enter_branch-returns-clause-swept
+choices::enter_branch-returns-clause-swept = choices.enter_branch-returns-clause-swept
 
 pub choices::sweep_branch-returns-then-not-does_branch_wait-clause-passed : goal.choices::sweep_branch-returns-then-not-does_branch_wait-clause-passed
 choices::sweep_branch-returns-then-not-does_branch_wait-clause-passed = choices.sweep_branch-returns-then-not-does_branch_wait-clause-passed
 
-pub choices::sweep_branch-returns-clause-passed : goal.choices::sweep_branch-returns-clause-passed
-choices::sweep_branch-returns-clause-passed = choices.sweep_branch-returns-clause-passed
+pub choices::enter_branch-returns-clause-passed : goal.choices::enter_branch-returns-clause-passed
+choices::enter_branch-returns-clause-passed = choices.enter_branch-returns-clause-passed
 
 pub choices::sweep_branches-sweep_branch-requires : goal.choices::sweep_branches-sweep_branch-requires
 choices::sweep_branches-sweep_branch-requires = choices.sweep_branches-sweep_branch-requires
@@ -215,7 +232,9 @@ sweep::sweep_loop-sweep_list-requires t c =
     search std_rules
 
 pub sweep::sweep_and_or-returns : goal.sweep::sweep_and_or-returns
-sweep::sweep_and_or-returns t c = record { swept = if_ok c.sweep_links.result _ _ (λ u h. swept_more c.args.subject.now _ _ _ _ _ c.in_ok-sweep_pipe.ensures.swept h) c.sweep_links.ensures.swept }
+sweep::sweep_and_or-returns t c =
+    let s = c.args.subject.now in
+    record { swept = if_ok c.sweep_links_again.result _ _ (λ u h. swept_more s _ _ _ _ _ (swept_more s _ _ _ _ _ c.in_ok-sweep_pipe.ensures.swept c.in_ok-sweep_links.ensures.swept) h) c.sweep_links_again.ensures.swept }
 
 pub sweep::sweep_inside-returns : goal.sweep::sweep_inside-returns
 sweep::sweep_inside-returns t c = record { swept = if_ok c.sweep_kind.result _ _ (λ u h. swept_more c.args.subject.now _ _ _ _ _ c.in_ok-sweep_redirections.ensures.swept h) c.sweep_kind.ensures.swept }
@@ -422,8 +441,8 @@ words::sweep_element-sweep_word-requires = words.sweep_element-sweep_word-requir
 pub words::sweep_element-pass_word-requires : goal.words::sweep_element-pass_word-requires
 words::sweep_element-pass_word-requires = words.sweep_element-pass_word-requires
 
-pub words::sweep_element-pass_target-requires : goal.words::sweep_element-pass_target-requires
-words::sweep_element-pass_target-requires = words.sweep_element-pass_target-requires
+pub words::sweep_element-sweep_target-requires : goal.words::sweep_element-sweep_target-requires
+words::sweep_element-sweep_target-requires = words.sweep_element-sweep_target-requires
 
 pub words::sweep_redirections-sweep_redirects-requires : goal.words::sweep_redirections-sweep_redirects-requires
 words::sweep_redirections-sweep_redirects-requires = words.sweep_redirections-sweep_redirects-requires
@@ -439,6 +458,9 @@ words::pass_target-pass_word-requires = words.pass_target-pass_word-requires
 
 pub words::sweep_for_words-sweep_words-requires : goal.words::sweep_for_words-sweep_words-requires
 words::sweep_for_words-sweep_words-requires = words.sweep_for_words-sweep_words-requires
+
+pub words::pass_word-returns-then-not-may_wait_in-clause-gained : goal.words::pass_word-returns-then-not-may_wait_in-clause-gained
+words::pass_word-returns-then-not-may_wait_in-clause-gained = words.pass_word-returns-then-not-may_wait_in-clause-gained
 
 pub words::sweep_words-pass_word-requires : goal.words::sweep_words-pass_word-requires
 words::sweep_words-pass_word-requires = words.sweep_words-pass_word-requires
@@ -494,8 +516,8 @@ words::open_part-returns-in-Tilde-clause-gained = words.open_part-returns-in-Til
 pub words::open_part-returns-in-Joined-clause-gained : goal.words::open_part-returns-in-Joined-clause-gained
 words::open_part-returns-in-Joined-clause-gained = words.open_part-returns-in-Joined-clause-gained
 
-pub words::sweep_substitution-sweep_list-requires : goal.words::sweep_substitution-sweep_list-requires
-words::sweep_substitution-sweep_list-requires = words.sweep_substitution-sweep_list-requires
+pub words::enter_substitution-sweep_list-requires : goal.words::enter_substitution-sweep_list-requires
+words::enter_substitution-sweep_list-requires = words.enter_substitution-sweep_list-requires
 
 pub words::pass_operator-pass_action-requires : goal.words::pass_operator-pass_action-requires
 words::pass_operator-pass_action-requires = words.pass_operator-pass_action-requires
@@ -632,8 +654,8 @@ words::pass_part-returns-then-levels-eq0-clause-gained = words.pass_part-returns
 pub words::pass_expression-returns-then-levels-eq0-clause-gained : goal.words::pass_expression-returns-then-levels-eq0-clause-gained
 words::pass_expression-returns-then-levels-eq0-clause-gained = words.pass_expression-returns-then-levels-eq0-clause-gained
 
-pub choices::sweep_clause-returns-then-is_idle-clause-passed : goal.choices::sweep_clause-returns-then-is_idle-clause-passed
-choices::sweep_clause-returns-then-is_idle-clause-passed = choices.sweep_clause-returns-then-is_idle-clause-passed
+pub choices::sweep_clause-returns-then-not-does_clause_wait-clause-passed : goal.choices::sweep_clause-returns-then-not-does_clause_wait-clause-passed
+choices::sweep_clause-returns-then-not-does_clause_wait-clause-passed = choices.sweep_clause-returns-then-not-does_clause_wait-clause-passed
 
 pub choices::sweep_clause-returns-clause-swept : goal.choices::sweep_clause-returns-clause-swept
 choices::sweep_clause-returns-clause-swept = choices.sweep_clause-returns-clause-swept

@@ -29,6 +29,9 @@ invariant-links::sweep_links-loop-link l = record {
   placed : AreLinks l.subject (walks.around l.subject.script.now l.around) (known_behind l.subject l.behind) (drop l.link-index l.links);
 }
 
+abbrev pub invariant-links::sweep_links_again-loop-round : goal.invariant-links::sweep_links_again-loop-round
+invariant-links::sweep_links_again-loop-round l = record { swept : IsSwept l.subject l.initial.draft.certificate l.draft.certificate l.draft.probe.count }
+
 abbrev pub invariant-sweep::sweep_parts-loop-command : goal.invariant-sweep::sweep_parts-loop-command
 invariant-sweep::sweep_parts-loop-command l = record {
   swept : IsSwept l.subject l.initial.draft.certificate l.draft.certificate l.draft.probe.count;
@@ -174,11 +177,17 @@ decreases-choices::sweep_clause l = l.levels * 64 + 24
 abbrev pub decreases-choices::sweep_branches : goal.decreases-choices::sweep_branches
 decreases-choices::sweep_branches l = l.levels * 64 + 24
 
+abbrev pub decreases-words::enter_substitution : goal.decreases-words::enter_substitution
+decreases-words::enter_substitution l = l.levels * 64 + 21
+
 abbrev pub decreases-words::sweep_substitution : goal.decreases-words::sweep_substitution
 decreases-words::sweep_substitution l = l.levels * 64 + 22
 
 abbrev pub decreases-choices::sweep_body : goal.decreases-choices::sweep_body
 decreases-choices::sweep_body l = l.levels * 64 + 22
+
+abbrev pub decreases-choices::enter_branch : goal.decreases-choices::enter_branch
+decreases-choices::enter_branch l = l.levels * 64 + 21
 
 abbrev pub decreases-choices::sweep_branch : goal.decreases-choices::sweep_branch
 decreases-choices::sweep_branch l = l.levels * 64 + 22
@@ -206,6 +215,9 @@ decreases-sweep::enter_process l = l.levels * 64 + 13
 
 abbrev pub decreases-sweep::sweep_processes : goal.decreases-sweep::sweep_processes
 decreases-sweep::sweep_processes l = l.levels * 64 + 5
+
+abbrev pub decreases-words::sweep_target : goal.decreases-words::sweep_target
+decreases-words::sweep_target l = l.levels * 64 + 11
 
 abbrev pub decreases-words::sweep_element : goal.decreases-words::sweep_element
 decreases-words::sweep_element l = l.levels * 64 + 12
@@ -242,6 +254,9 @@ decreases-words::pass_action l = l.levels * 64 + 8
 
 abbrev pub decreases-words::open_expression : goal.decreases-words::open_expression
 decreases-words::open_expression l = l.levels * 64 + 8
+
+abbrev pub decreases-links::sweep_links_again : goal.decreases-links::sweep_links_again
+decreases-links::sweep_links_again l = l.levels * 64 + 11
 
 abbrev pub decreases-links::link_or_pass : goal.decreases-links::link_or_pass
 decreases-links::link_or_pass l = l.levels * 64 + 9

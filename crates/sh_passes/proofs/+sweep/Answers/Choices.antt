@@ -13,6 +13,8 @@ use Rattle.sh_domain.specs.Gains.{word_gains}
 use Rattle.sh_domain.specs.Knowledge.{knowledge_facts}
 use Rattle.sh_domain.specs.Views.{gaining}
 use Rattle.sh_domain.proofs.OrderLemmas.{within_nowhere}
+use Rattle.sh_domain.specs.Order.{IsWithin}
+use Rattle.sh_sweeps.proofs.KnownLemmas.{unreached}
 use Rattle.sh_rules.specs.Behind.{both}
 use Rattle.sh_rules.specs.Walks as walks
 use Rattle.sh_rules.specs.Walks.{facts_in}
@@ -49,9 +51,9 @@ sweep_conditional-sweep_case-requires t c =
     subst (λ cs. IsIn s (λ v. entries.word_entered v w ++ entries.clauses_entered y (gaining (word_gains w) v) [] (clauses_from s.script.now cs)) k) (sym c.as_slice-clauses.ensures) first in
     search std_rules
 
-pub sweep_branch-sweep_items-requires : goal.choices::sweep_branch-sweep_items-requires
+pub enter_branch-sweep_items-requires : goal.choices::enter_branch-sweep_items-requires
 unfolding facts_in
-sweep_branch-sweep_items-requires t c =
+enter_branch-sweep_items-requires t c =
     let s = c.args.subject.now in
     let r = c.requires.ready in
     let y = walks.around s.script.now c.args.around.now in
@@ -62,9 +64,9 @@ sweep_branch-sweep_items-requires t c =
     begun_at s y k c.begun-course.result F6 (out-Branch c.args.branch.now).condition c.as_slice.result.now c.begun-course.ensures.by begun c.as_slice.ensures (branch_condition s y k c.args.branch.now w.0 w.1 w.2) in
     search std_rules
 
-pub sweep_branch-sweep_list-requires : goal.choices::sweep_branch-sweep_list-requires
+pub enter_branch-sweep_list-requires : goal.choices::enter_branch-sweep_list-requires
 unfolding facts_in
-sweep_branch-sweep_list-requires t c =
+enter_branch-sweep_list-requires t c =
     let s = c.args.subject.now in
     let r = c.requires.ready in
     let y = walks.around s.script.now c.args.around.now in
@@ -77,13 +79,13 @@ sweep_branch-sweep_list-requires t c =
     branch_body s y k _ c.args.branch.now w.0 w.1 (λ q w other keeps. (after q w other keeps).zero) w.2 in
     search std_rules
 
-pub sweep_branch-returns-clause-swept : goal.choices::sweep_branch-returns-clause-swept
-sweep_branch-returns-clause-swept t c =
+pub enter_branch-returns-clause-swept : goal.choices::enter_branch-returns-clause-swept
+enter_branch-returns-clause-swept t c =
     swept_more c.args.subject.now _ _ _ _ _ c.in_ok-sweep_items.ensures.swept c.in_ok-sweep_list.ensures.swept
 
-pub sweep_branch-returns-clause-passed : goal.choices::sweep_branch-returns-clause-passed
+pub enter_branch-returns-clause-passed : goal.choices::enter_branch-returns-clause-passed
 unfolding facts_in
-sweep_branch-returns-clause-passed t c =
+enter_branch-returns-clause-passed t c =
     λ others z here.
     let s = c.args.subject.now in
     let y = walks.around s.script.now c.args.around.now in
@@ -93,12 +95,13 @@ sweep_branch-returns-clause-passed t c =
     branches_next s y k _ c.args.branch.now others z (λ q w other keeps. (after q w other keeps).nonzero) here
 
 pub sweep_branch-returns-then-not-does_branch_wait-clause-passed : goal.choices::sweep_branch-returns-then-not-does_branch_wait-clause-passed
-unfolding knowledge_facts
 sweep_branch-returns-then-not-does_branch_wait-clause-passed t c =
     λ others z here.
     let s = c.args.subject.now in
     let y = walks.around s.script.now c.args.around.now in
-    branches_next s y _ NotReached c.args.branch.now others z (λ q w other keeps. within_nowhere _) here
+    let k = knowledge_facts s.names.now c.args.known.now in
+    let nowhere : k ≡ NotReached = unreached k _ (c.is_reached.ensures s.names.now) c.if-not-is_reached.true in
+    branches_next s y _ k c.args.branch.now others z (λ q w other keeps. subst (IsWithin _) (sym nowhere) (within_nowhere _)) here
 
 pub sweep_branches-sweep_branch-requires : goal.choices::sweep_branches-sweep_branch-requires
 sweep_branches-sweep_branch-requires t c =
@@ -215,15 +218,15 @@ sweep_clause-sweep_patterns-requires t c =
     subst (λ ws. IsIn s (λ q. entries.patterns_entered q (words_from s.script.now ws)) k) (sym c.as_slice.ensures) first in
     search std_rules
 
-pub sweep_clause-returns-then-is_idle-clause-passed : goal.choices::sweep_clause-returns-then-is_idle-clause-passed
-unfolding knowledge_facts
-sweep_clause-returns-then-is_idle-clause-passed t c =
+pub sweep_clause-returns-then-not-does_clause_wait-clause-passed : goal.choices::sweep_clause-returns-then-not-does_clause_wait-clause-passed
+sweep_clause-returns-then-not-does_clause_wait-clause-passed t c =
     λ others here.
     let s = c.args.subject.now in
     let y = walks.around s.script.now c.args.around.now in
     let k = knowledge_facts s.names.now c.args.behind.now in
     let old = knowledge_facts s.names.now c.args.fallen.now in
-    clauses_idle s y k old c.args.clause.now others here
+    let nowhere : old ≡ NotReached = unreached old _ (c.is_reached-then-not-is_reached.ensures s.names.now) c.if-not-is_reached-2.true in
+    subst (λ f. AreClauses s y k f (clauses_from s.script.now others)) (sym nowhere) (clauses_idle s y k old c.args.clause.now others here)
 
 pub sweep_clause-returns-clause-swept : goal.choices::sweep_clause-returns-clause-swept
 sweep_clause-returns-clause-swept t c = if_ok c.sweep_body.result _ _ (λ u h. swept_more c.args.subject.now _ _ _ _ _ c.in_ok-sweep_patterns.ensures.swept h) c.sweep_body.ensures.swept

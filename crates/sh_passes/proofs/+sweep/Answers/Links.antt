@@ -52,3 +52,14 @@ link_or_pass-returns-clause-passed t c =
     let s = c.args.subject.now in
     let y = walks.around s.script.now c.args.around.now in
     links_next s y (known_behind s c.args.behind.now) _ c.args.link.now others c.link_if-2.ensures here
+
+pub sweep_links_again-sweep_links-requires : goal.links::sweep_links_again-sweep_links-requires
+sweep_links_again-sweep_links-requires t c =
+    let s = c.args.subject.now in
+    let y = walks.around s.script.now c.args.around.now in
+    let ready : IsReady s c.loop-round.draft.certificate c.loop-round.draft.probe.count = ready_again s _ _ _ _ c.requires.ready c.loop-round.invariant.swept in
+    let placed : AreLinks s y (known_behind s c.nothing_behind-behind.result) c.args.links.now = record { seen = c.requires.placed.1.seen; part = c.requires.placed.1.part; knows = c.nothing_behind-behind.ensures s _ } in
+    search std_rules
+
+pub sweep_links_again-loop-round-preserved : goal.links::sweep_links_again-loop-round-preserved
+sweep_links_again-loop-round-preserved t c = record { swept = swept_more c.args.subject.now _ _ _ _ _ c.loop-round.invariant.swept c.in_ok-sweep_links.ensures.swept }

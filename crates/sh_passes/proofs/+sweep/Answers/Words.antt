@@ -1,4 +1,4 @@
-use Rattle.std.proofs.Common.{rules as std_rules, ap, ◌+◌, ◌∷◌, ◌∙◌, ℕ, List, drop, refl, sym, subst}
+use Rattle.std.proofs.Common.{rules as std_rules, ap, ◌≡◌, ◌+◌, ◌∷◌, ◌∙◌, ℕ, List, drop, refl, sym, subst}
 use Rattle.std.proofs.lemmas.List.{drop_all}
 use Rattle.sh_tree.specs.declared.tree.Element.{Element}
 use Rattle.sh_tree.specs.Lists.{elements_from, for_words_from, operands_from, parts_from, redirects_from, words_from}
@@ -17,6 +17,8 @@ use Rattle.sh_sweeps.specs.Sweeps.{AreElements, Gained, IsIn, IsList, IsWord}
 use Rattle.sh_drafts.specs.Ready.{IsReady}
 use Rattle.sh_sweeps.proofs.PlacedLemmas.{at_index}
 use Rattle.sh_drafts.proofs.ReadyLemmas.{names_numbered, ready_again, swept_more, swept_none}
+use Rattle.sh_domain.specs.Facts.{NotReached}
+use Rattle.sh_sweeps.proofs.KnownLemmas.{unreached}
 use Rattle.sh_sweeps.proofs.WordLemmas.{Along, along_first, along_no_operands, along_no_parts, along_operands, along_parts, arithmetic_gained, arithmetic_placed, assigned_gained, assigned_placed, both_gained, chain_first, chain_gained, chain_rest, choice_condition, choice_gained, choice_no, choice_yes, double_gained, double_placed, element_as, elements_first, expanded_gained, expanded_placed, expansion_gained, expansion_placed, expression_as, expression_gained, file_gained, file_placed, gained_nowhere, here_gained, here_placed, if_ok, link_expression, listed_placed, literal_gained, nothing_gained, operand_inside, operand_next, operand_placed, operands_next, parenthesis_gained, parenthesis_placed, part_as, part_gained, part_placed, pattern_placed, patterns_next, pieces_next, plain_gained, redirect_placed, redirection_next, redirection_placed, redirects_next, remove_placed, signed_gained, signed_placed, substitution_placed, use_gained, use_placed, value_next, value_placed, word_placed, words_next}
 use Rattle.sh_passes.proofs.+sweep.Goals as goal
 
@@ -66,8 +68,8 @@ sweep_element-pass_word-requires t c =
     let placed : IsWord s k (parts_from s.script.now c.in-Word.word.parts) = operand_placed s k b _ _ here in
     search std_rules
 
-pub sweep_element-pass_target-requires : goal.words::sweep_element-pass_target-requires
-sweep_element-pass_target-requires t c =
+pub sweep_element-sweep_target-requires : goal.words::sweep_element-sweep_target-requires
+sweep_element-sweep_target-requires t c =
     let s = c.args.subject.now in
     let r = c.requires.ready in
     let k = knowledge_facts s.names.now c.args.known.now in
@@ -119,6 +121,14 @@ sweep_for_words-sweep_words-requires t c =
     let first = listed_placed s k _ (subst (λ x. IsIn s (λ q. entries.for_words_entered q x) k) (ap (for_words_from s.script.now) c.in-Some.is ∙ program.for_words_from-Some s.script.now c.in-Some.words) c.requires.placed) in
     let placed : IsIn s (λ q. entries.words_entered q (words_from s.script.now c.as_slice.result.now)) k = subst (λ ws. IsIn s (λ q. entries.words_entered q (words_from s.script.now ws)) k) (sym c.as_slice.ensures) first in
     search std_rules
+
+pub pass_word-returns-then-not-may_wait_in-clause-gained : goal.words::pass_word-returns-then-not-may_wait_in-clause-gained
+pass_word-returns-then-not-may_wait_in-clause-gained t c =
+    let s = c.args.subject.now in
+    let k = knowledge_facts s.names.now c.args.known.now in
+    let g = word_gains (parts_from s.script.now c.args.word.now.parts) in
+    let nowhere : k ≡ NotReached = unreached k _ (c.is_reached.ensures s.names.now) c.if-not-is_reached.true in
+    subst (Gained s g k) (sym nowhere) (gained_nowhere s g k)
 
 pub sweep_words-pass_word-requires : goal.words::sweep_words-pass_word-requires
 sweep_words-pass_word-requires t c =
@@ -275,9 +285,9 @@ open_part-returns-in-Joined-clause-gained t c =
     let k = knowledge_facts s.names.now c.args.known.now in
     plain_gained s _ (names_numbered s _ _ r) r.over k c.args.part.now _ _ c.in-Joined.is (program.part_of-Joined s.script.now _) refl
 
-pub sweep_substitution-sweep_list-requires : goal.words::sweep_substitution-sweep_list-requires
+pub enter_substitution-sweep_list-requires : goal.words::enter_substitution-sweep_list-requires
 unfolding entries.item_seen
-sweep_substitution-sweep_list-requires t c =
+enter_substitution-sweep_list-requires t c =
     let s = c.args.subject.now in
     let r = c.requires.ready in
     let k = knowledge_facts s.names.now c.args.known.now in
@@ -517,7 +527,7 @@ sweep_element-returns-in-Redirection-clause-passed t c =
     let r = c.requires.ready in
     let k = knowledge_facts s.names.now c.args.known.now in
     let b = knowledge_facts s.names.now c.args.behind.now in
-    if_ok c.pass_target.result _ _ (λ u h others here. redirection_next s k b _ _ (element_as s k b c.args.element.now _ others _ c.in-Redirection.is (program.elements_from-Redirection s.script.now c.in-Redirection.redirect others) here)) c.pass_target.ensures.swept
+    if_ok c.sweep_target.result _ _ (λ u h others here. redirection_next s k b _ _ (element_as s k b c.args.element.now _ others _ c.in-Redirection.is (program.elements_from-Redirection s.script.now c.in-Redirection.redirect others) here)) c.sweep_target.ensures.swept
 
 pub pass_target-returns-in-File-clause-gained : goal.words::pass_target-returns-in-File-clause-gained
 pass_target-returns-in-File-clause-gained t c =

@@ -1,0 +1,58 @@
+//! How long a look at a command takes: a hint.
+
+use sh_tree::{Clause, Command, Element, Kind, Target};
+
+// So many bytes of words take as long as a short command.
+const BYTES: u32 = 32;
+
+// So many patterns, clauses, branches and redirections do.
+const PIECES: usize = 8;
+
+/// How many looks at short commands take as long as a look at this one.
+pub fn looks_of(command: &Command) -> u64 {
+    let bytes = end_of_words(command).saturating_sub(command.at);
+    let pieces = pieces_of(&command.kind).saturating_add(command.redirects.as_slice().len());
+    1u64.saturating_add((bytes / BYTES) as u64)
+        .saturating_add((pieces / PIECES) as u64)
+}
+
+// Where the words of a command end. If it has none, it ends there.
+fn end_of_words(command: &Command) -> u32 {
+    let end = match &command.kind {
+        Kind::Simple(elements) => elements.as_slice().last().map(end_of),
+        Kind::For {
+            words: Some(words),
+            ..
+        } => words.as_slice().last().map(|word| word.span.end),
+        _ => None,
+    };
+    end.unwrap_or(command.at)
+}
+
+fn end_of(element: &Element) -> u32 {
+    match element {
+        Element::Assignment { value, .. } => value.span.end,
+        Element::Word(word) => word.span.end,
+        Element::Redirection(redirect) => match &redirect.target {
+            Target::File(_, word) => word.span.end,
+            Target::Here(here) => here.body.span.end,
+        },
+    }
+}
+
+// How many clauses with their patterns, or branches, a command has.
+fn pieces_of(kind: &Kind) -> usize {
+    match kind {
+        Kind::Branches { clauses, .. } => count(clauses.as_slice()),
+        Kind::Cond { branches, .. } => branches.as_slice().len(),
+        _ => 0,
+    }
+}
+
+fn count(clauses: &[Clause]) -> usize {
+    let mut pieces = 0usize;
+    for clause in clauses {
+        pieces = pieces.saturating_add(1 + clause.patterns.as_slice().len());
+    }
+    pieces
+}
