@@ -120,7 +120,7 @@ fn sweep_function(
 // The place that the rules speak of so, if a script may have it, and nothing is stated.
 fn place_in(subject: &Subject<'_>, certificate: &Certificate, slot: Slot<'_>) -> Option<Place>
     requires { (probed : ℕ) × IsReady subject.now certificate.now probed }
-    ensures there { IfSome result (λ place. Some place ≡ place_of (functions_in subject.now.script.now subject.now.tree.now) (slot_of slot.entry)) }
+    ensures there { IfSome result (λ place. Some place ≡ place_of (functions_in subject.now.script.now subject.now.tree.now) (slot_of subject.now.script.now slot.entry)) }
     ensures free { IfSome result (λ place. subject.now.stated ≡ false) }
 {
     if subject.stated {
@@ -172,8 +172,8 @@ fn sweep_defined(
 }
 
 // The index of a function, or the first if a script may not have it: a hint.
-fn index_of(subject: &Subject<'_>, name: &[u8]) -> u16 {
-    let place = subject.table.function_place(name).unwrap_or(0);
+fn index_of(subject: &Subject<'_>, name: Span) -> u16 {
+    let place = subject.table.function_at(name).unwrap_or(0);
     u16::try_from(place).unwrap_or(0)
 }
 
@@ -191,15 +191,14 @@ fn sweep_body(
         × IsPart subject.now (command_entered by y q (p.command n offset (p.Define (text_of subject.now.script.now name) (trees.command_of subject.now.script.now body.now)) rs)) }
     ensures swept { IfOk result (λ unit. IsSwept subject.now draft.old.certificate draft.new.certificate draft.new.probe.count) }
 {
-    let text = name.text(subject.script);
-    let outer = enter_function(&mut draft.waiting, index_of(subject, text));
+    let outer = enter_function(&mut draft.waiting, index_of(subject, name));
     sweep_definition(subject, draft, levels, name, body)?;
     draft.waiting.function = outer;
     let zero = zero_of(subject, &draft.certificate, body.number);
-    let place = place_in(subject, &draft.certificate, Slot::ReturnZero(text));
+    let place = place_in(subject, &draft.certificate, Slot::ReturnZero(name));
     lower_return(subject, draft, place, &zero)?;
     let nonzero = nonzero_of(subject, &draft.certificate, body.number);
-    let other = place_in(subject, &draft.certificate, Slot::ReturnNonzero(text));
+    let other = place_in(subject, &draft.certificate, Slot::ReturnNonzero(name));
     lower_return(subject, draft, other, &nonzero)?;
     Ok(())
 }

@@ -24,6 +24,7 @@ use Rattle.sh_domain.specs.declared.knowledge.Knowledge.{Knowledge}
 use Rattle.sh_domain.specs.declared.rule.FlowRule.{FlowRule}
 use Rattle.sh_domain.specs.Entries as e
 use Rattle.sh_domain.specs.Facts.{Facts}
+use Rattle.sh_domain.specs.Names.{number_of}
 use Rattle.sh_domain.specs.Table.{is_redirected}
 use Rattle.sh_rules.specs.declared.around.Around.{Around}
 use Rattle.sh_rules.specs.declared.claims.Claims.{Claims}
@@ -45,6 +46,10 @@ texts_read c ts n same = ap (λ s. map (text_in s) ts) (sym c.read) ∙ same
 pub call_read : (c : Claims) (n : ℕ) (o : Option ℕ) → o ≡ callee_at c.calls.now n → is_some o ≡ calls_at (setting c) n
 unfolding callee_at text_at setting
 call_read c n o same = ap (λ (i : Option ℕ). is_some i) same
+
+pub index_read : (c : Claims) (o : Option ℕ) (s : Span) → o ≡ number_of c.calls.now.functions.names (text_of c.calls.now.script s) → o ≡ number_of (setting c).functions (text_of (setting c).script s)
+unfolding setting
+index_read c o s same = same ∙ ap (λ b. number_of c.calls.now.functions.names (text_of b s)) c.read
 
 -- Simple commands
 

@@ -1,5 +1,6 @@
 //! What is done with what the flow rules ask at each command.
 ghost use Rattle.std.specs.Prelude.{◌≡◌};
+ghost use Rattle.sh_tree.specs.standard.Tree.{text_of};
 ghost use Rattle.sh_rules.specs.Asking.{Asking, one_function, one_variable};
 ghost use Rattle.sh_rules.specs.LeastFault.{least_told};
 ghost use Rattle.sh_rules.specs.Places.{slot_of};
@@ -11,6 +12,7 @@ use crate::claims::Claims;
 use crate::fault::{Fault, Least};
 use crate::place::Place;
 use sh_domain::Knowledge;
+use sh_tree::Span;
 
 /// What is done with what the flow rules ask at each command. A place has to claim no more than is
 /// known there, and a function to drop what its commands drop. Each comes with the command and the
@@ -26,19 +28,19 @@ pub trait Asked {
 
     /// A place may claim no more than this.
     fn bound(&mut self, claims: &Claims<'_>, place: Place<'_>, fault: Fault, known: &Knowledge)
-        ensures { kept self.new ≡ asked.bound (setting claims.now) (slot_of place.entry) (fault_of fault) (facts_in (setting claims.now) known.now) (kept self.old) };
+        ensures { kept self.new ≡ asked.bound (setting claims.now) (slot_of (setting claims.now).script place.entry) (fault_of fault) (facts_in (setting claims.now) known.now) (kept self.old) };
 
     /// A function drops a variable.
-    fn drop_variable(&mut self, claims: &Claims<'_>, function: &[u8], fault: Fault, name: &[u8])
-        ensures { kept self.new ≡ asked.drop (setting claims.now) function.now (fault_of fault) (one_variable name.now) (kept self.old) };
+    fn drop_variable(&mut self, claims: &Claims<'_>, function: Span, fault: Fault, name: &[u8])
+        ensures { kept self.new ≡ asked.drop (setting claims.now) (text_of (setting claims.now).script function) (fault_of fault) (one_variable name.now) (kept self.old) };
 
     /// A function drops a function.
-    fn drop_function(&mut self, claims: &Claims<'_>, function: &[u8], fault: Fault, name: &[u8])
-        ensures { kept self.new ≡ asked.drop (setting claims.now) function.now (fault_of fault) (one_function name.now) (kept self.old) };
+    fn drop_function(&mut self, claims: &Claims<'_>, function: Span, fault: Fault, name: &[u8])
+        ensures { kept self.new ≡ asked.drop (setting claims.now) (text_of (setting claims.now).script function) (fault_of fault) (one_function name.now) (kept self.old) };
 
     /// A function drops all that a function drops which it calls.
-    fn drop_like(&mut self, claims: &Claims<'_>, function: &[u8], fault: Fault, callee: &[u8])
-        ensures { kept self.new ≡ asked.drop (setting claims.now) function.now (fault_of fault) ((certificate (setting claims.now)).drops callee.now) (kept self.old) };
+    fn drop_like(&mut self, claims: &Claims<'_>, function: Span, fault: Fault, callee: &[u8])
+        ensures { kept self.new ≡ asked.drop (setting claims.now) (text_of (setting claims.now).script function) (fault_of fault) ((certificate (setting claims.now)).drops callee.now) (kept self.old) };
 }
 
 /// The least fault so far, if what is asked fails.
@@ -59,15 +61,15 @@ impl Asked for Least {
         self.tell(claims.is_known(&facts, known), fault);
     }
 
-    fn drop_variable(&mut self, claims: &Claims<'_>, function: &[u8], fault: Fault, name: &[u8]) {
+    fn drop_variable(&mut self, claims: &Claims<'_>, function: Span, fault: Fault, name: &[u8]) {
         self.tell(claims.drops_variable(function, name), fault);
     }
 
-    fn drop_function(&mut self, claims: &Claims<'_>, function: &[u8], fault: Fault, name: &[u8]) {
+    fn drop_function(&mut self, claims: &Claims<'_>, function: Span, fault: Fault, name: &[u8]) {
         self.tell(claims.drops_function(function, name), fault);
     }
 
-    fn drop_like(&mut self, claims: &Claims<'_>, function: &[u8], fault: Fault, callee: &[u8]) {
+    fn drop_like(&mut self, claims: &Claims<'_>, function: Span, fault: Fault, callee: &[u8]) {
         self.tell(claims.drops_like(function, callee), fault);
     }
 }

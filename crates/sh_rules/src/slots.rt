@@ -40,6 +40,13 @@ impl Claims<'_> {
         span.text(self.script)
     }
 
+    /// The index of the function whose name is at a span, if it is one of the script.
+    pub fn index_at(&self, name: Span) -> Option<usize>
+        ensures { result ≡ number_of (setting self.now).functions (text_of (setting self.now).script name) }
+    {
+        self.calls.function_at(name)
+    }
+
     // The facts round the command of a number.
     #[tactic(auto, unfolding(crate::specs::Walks::setting))]
     fn entry(&self, number: u32) -> Option<&Entry>
@@ -68,6 +75,15 @@ impl Claims<'_> {
     {
         let place = self.calls.function_place(name)?;
         self.certificate.functions.get(place)
+    }
+
+    // The facts round the function whose name is at a span.
+    #[tactic(auto, unfolding(crate::specs::Walks::setting))]
+    fn function_at(&self, name: Span) -> Option<&FunctionEntry>
+        ensures { option_copied result ≡ slots.entry_of (setting self.now).kept (setting self.now).functions (text_of (setting self.now).script name) }
+    {
+        let index = self.index_at(name)?;
+        self.certificate.functions.get(index)
     }
 }
 
@@ -148,10 +164,10 @@ impl Claims<'_> {
 
     // Where a function returns with status zero.
     #[tactic(auto, using(crate::proofs::ClaimLemmas::return_zero_there, crate::proofs::ClaimLemmas::return_zero_away))]
-    fn return_zero_facts(&self, name: &[u8]) -> Facts
-        ensures { claim_in (setting self.now) result ≡ claimed_at (setting self.now) (views.ReturnsZero name.now) }
+    fn return_zero_facts(&self, name: Span) -> Facts
+        ensures { claim_in (setting self.now) result ≡ claimed_at (setting self.now) (views.ReturnsZero (text_of (setting self.now).script name)) }
     {
-        match self.function(name) {
+        match self.function_at(name) {
             Some(entry) => entry.zero,
             None => Facts::NotReached,
         }
@@ -159,10 +175,10 @@ impl Claims<'_> {
 
     // Where a function returns with another status.
     #[tactic(auto, using(crate::proofs::ClaimLemmas::return_nonzero_there, crate::proofs::ClaimLemmas::return_nonzero_away))]
-    fn return_nonzero_facts(&self, name: &[u8]) -> Facts
-        ensures { claim_in (setting self.now) result ≡ claimed_at (setting self.now) (views.ReturnsNonzero name.now) }
+    fn return_nonzero_facts(&self, name: Span) -> Facts
+        ensures { claim_in (setting self.now) result ≡ claimed_at (setting self.now) (views.ReturnsNonzero (text_of (setting self.now).script name)) }
     {
-        match self.function(name) {
+        match self.function_at(name) {
             Some(entry) => entry.nonzero,
             None => Facts::NotReached,
         }
@@ -170,7 +186,7 @@ impl Claims<'_> {
 
     /// What is claimed at a place, as the certificate keeps it.
     pub fn facts_at(&self, place: Place<'_>) -> Facts
-        ensures { claim_in (setting self.now) result ≡ claimed_at (setting self.now) (slot_of place.entry) }
+        ensures { claim_in (setting self.now) result ≡ claimed_at (setting self.now) (slot_of (setting self.now).script place.entry) }
     {
         match place {
             Place::Before(number) => self.before_facts(number),
@@ -244,10 +260,10 @@ impl Claims<'_> {
 impl Claims<'_> {
     /// Whether a function drops a variable.
     #[tactic(auto, using(crate::proofs::DropLemmas::variable_away))]
-    pub fn drops_variable(&self, function: &[u8], name: &[u8]) -> bool
-        ensures { result ≡ are_among (one_variable name.now) ((certificate (setting self.now)).drops function.now) }
+    pub fn drops_variable(&self, function: Span, name: &[u8]) -> bool
+        ensures { result ≡ are_among (one_variable name.now) ((certificate (setting self.now)).drops (text_of (setting self.now).script function)) }
     {
-        match self.function(function) {
+        match self.function_at(function) {
             Some(entry) => entry
                 .drops
                 .has_variable(self.names, &self.certificate.rows, name),
@@ -257,10 +273,10 @@ impl Claims<'_> {
 
     /// Whether a function drops a function.
     #[tactic(auto, using(crate::proofs::DropLemmas::function_away))]
-    pub fn drops_function(&self, function: &[u8], name: &[u8]) -> bool
-        ensures { result ≡ are_among (one_function name.now) ((certificate (setting self.now)).drops function.now) }
+    pub fn drops_function(&self, function: Span, name: &[u8]) -> bool
+        ensures { result ≡ are_among (one_function name.now) ((certificate (setting self.now)).drops (text_of (setting self.now).script function)) }
     {
-        match self.function(function) {
+        match self.function_at(function) {
             Some(entry) => entry
                 .drops
                 .has_function(self.names, &self.certificate.rows, name),
@@ -269,12 +285,12 @@ impl Claims<'_> {
     }
 
     /// Whether a function drops all that another one drops.
-    pub fn drops_like(&self, function: &[u8], callee: &[u8]) -> bool
-        ensures { result ≡ are_among ((certificate (setting self.now)).drops callee.now) ((certificate (setting self.now)).drops function.now) }
+    pub fn drops_like(&self, function: Span, callee: &[u8]) -> bool
+        ensures { result ≡ are_among ((certificate (setting self.now)).drops callee.now) ((certificate (setting self.now)).drops (text_of (setting self.now).script function)) }
     {
         let rows = &self.certificate.rows;
         match self.function(callee) {
-            Some(called) => match self.function(function) {
+            Some(called) => match self.function_at(function) {
                 Some(entry) => entry.drops.includes(rows, &called.drops),
                 None => {
                     is_row_empty(rows, called.drops.vars)

@@ -9,10 +9,11 @@ ghost use Rattle.sh_drafts.specs.Spots.{place_at};
 ghost use Rattle.sh_sweeps.specs.Asked.{gathered_of, gathering};
 
 use crate::gather::Gather;
-use crate::slots::{index_of, spot_of};
+use crate::slots::spot_of;
 use sh_domain::Knowledge;
 use sh_drafts::Spot;
 use sh_rules::{Asked, Claims, Fault, Place};
+use sh_tree::Span;
 
 impl Gather {
     /// A place, which is this spot, may claim no more than this.
@@ -23,9 +24,9 @@ impl Gather {
         spot: Option<Spot>,
         known: &Knowledge,
     )
-        requires { option_map place_at spot ≡ place_of (setting claims.now).functions (slot_of place) }
-        ensures { gathered_of self.new ≡ bounded (setting claims.now).names (setting claims.now).functions (slot_of place.entry)
-            (claimed_at (setting claims.now) (slot_of place.entry)) (facts_in (setting claims.now) known.now) (gathered_of self.old) }
+        requires { option_map place_at spot ≡ place_of (setting claims.now).functions (slot_of (setting claims.now).script place) }
+        ensures { gathered_of self.new ≡ bounded (setting claims.now).names (setting claims.now).functions (slot_of (setting claims.now).script place.entry)
+            (claimed_at (setting claims.now) (slot_of (setting claims.now).script place.entry)) (facts_in (setting claims.now) known.now) (gathered_of self.old) }
     {
         let facts = claims.facts_at(place);
         let is_kept = claims.is_known(&facts, known);
@@ -52,25 +53,25 @@ impl Asked for Gather {
         self.bound_at(claims, place, spot, known);
     }
 
-    fn drop_variable(&mut self, claims: &Claims<'_>, function: &[u8], _fault: Fault, name: &[u8]) {
+    fn drop_variable(&mut self, claims: &Claims<'_>, function: Span, _fault: Fault, name: &[u8]) {
         let is_kept = claims.drops_variable(function, name);
-        let index = index_of(claims, function);
+        let index = claims.index_at(function);
         if self.see_function(index, is_kept) {
             self.lose_variable(claims.names, name);
         }
     }
 
-    fn drop_function(&mut self, claims: &Claims<'_>, function: &[u8], _fault: Fault, name: &[u8]) {
+    fn drop_function(&mut self, claims: &Claims<'_>, function: Span, _fault: Fault, name: &[u8]) {
         let is_kept = claims.drops_function(function, name);
-        let index = index_of(claims, function);
+        let index = claims.index_at(function);
         if self.see_function(index, is_kept) {
             self.lose_function(claims.names, name);
         }
     }
 
-    fn drop_like(&mut self, claims: &Claims<'_>, function: &[u8], _fault: Fault, callee: &[u8]) {
+    fn drop_like(&mut self, claims: &Claims<'_>, function: Span, _fault: Fault, callee: &[u8]) {
         let is_kept = claims.drops_like(function, callee);
-        let index = index_of(claims, function);
+        let index = claims.index_at(function);
         if self.see_function(index, is_kept) {
             self.lose_like(claims, callee);
         }

@@ -11,6 +11,7 @@ use sh_domain::{Knowledge, Names};
 use sh_drafts::sights::meet_assured;
 use sh_drafts::{Place, Sight};
 use sh_rules::{Asked, Claims, Fault, Place as Slot};
+use sh_tree::Span;
 
 /// What is known at two places where any run comes, and the names that a function has to drop.
 #[derive(Clone, Copy, Debug)]
@@ -54,15 +55,15 @@ impl Asked for Sides {
         }
     }
 
-    fn drop_variable(&mut self, claims: &Claims<'_>, function: &[u8], fault: Fault, name: &[u8]) {
+    fn drop_variable(&mut self, claims: &Claims<'_>, function: Span, fault: Fault, name: &[u8]) {
         self.gather.drop_variable(claims, function, fault, name);
     }
 
-    fn drop_function(&mut self, claims: &Claims<'_>, function: &[u8], fault: Fault, name: &[u8]) {
+    fn drop_function(&mut self, claims: &Claims<'_>, function: Span, fault: Fault, name: &[u8]) {
         self.gather.drop_function(claims, function, fault, name);
     }
 
-    fn drop_like(&mut self, claims: &Claims<'_>, function: &[u8], fault: Fault, callee: &[u8]) {
+    fn drop_like(&mut self, claims: &Claims<'_>, function: Span, fault: Fault, callee: &[u8]) {
         self.gather.drop_like(claims, function, fault, callee);
     }
 }

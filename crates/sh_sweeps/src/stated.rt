@@ -1,15 +1,17 @@
 //! Passes over what the flow rules require of places whose claims are stated.
 ghost use Rattle.std.specs.Prelude.{◌≡◌};
+ghost use Rattle.sh_tree.specs.standard.program.Syntax.{Text};
 ghost use Rattle.sh_rules.specs.Places.{slot_of};
 ghost use Rattle.sh_domain.specs.Filled as spec;
 
 use sh_domain::Knowledge;
 use sh_rules::{Asked, Claims, Fault, Place};
+use sh_tree::Span;
 
 // Whether a compact certificate states what is claimed at a place.
 #[tactic(auto, unfolding(sh_domain::specs::Filled::is_stated))]
 fn is_stated(place: Place<'_>) -> bool
-    ensures { result ≡ spec.is_stated (slot_of place.entry) }
+    ensures { (b : Text) → result ≡ spec.is_stated (slot_of b place.entry) }
 {
     match place {
         Place::Before(_) => false,
@@ -45,7 +47,7 @@ impl<A: Asked> Asked for Unstated<A> {
     fn drop_variable(
         &mut self,
         _claims: &Claims<'_>,
-        _function: &[u8],
+        _function: Span,
         _fault: Fault,
         _name: &[u8],
     ) {}
@@ -53,16 +55,10 @@ impl<A: Asked> Asked for Unstated<A> {
     fn drop_function(
         &mut self,
         _claims: &Claims<'_>,
-        _function: &[u8],
+        _function: Span,
         _fault: Fault,
         _name: &[u8],
     ) {}
 
-    fn drop_like(
-        &mut self,
-        _claims: &Claims<'_>,
-        _function: &[u8],
-        _fault: Fault,
-        _callee: &[u8],
-    ) {}
+    fn drop_like(&mut self, _claims: &Claims<'_>, _function: Span, _fault: Fault, _callee: &[u8]) {}
 }

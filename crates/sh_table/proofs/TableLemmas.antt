@@ -1,10 +1,11 @@
 -- What is kept of a script, and the row with a number.
 use Rattle.std.proofs.Common.{◌≡◌, ℕ, zero, suc, ◌<◌, ◌≤◌, ◌==◌, Bool, true, false, cond, not, List, [], ◌∷◌, length, get_or, slice_get, map, Option, Some, None, option_map, option_and_then, unwrap_or, refl, sym, ap, ap₂, ◌∙◌, arith, ◌+◌, ◌-◌, ◌++◌, fold}
+use Rattle.std.proofs.lemmas.List.Elements.{All-nil}
 use Rattle.std.proofs.lemmas.List.{get_or_default, length-append, length-map}
 use Rattle.std.proofs.lemmas.Option.{slice_get-map, slice_get_past, slice_get_read}
 use Rattle.std.proofs.Math.Dec.{ltb}
 use Rattle.std.proofs.lemmas.Bool.Decides.{nat_tests}
-use Rattle.std.specs.List.{AllWithin, cons_option, filter_map, position_or_len}
+use Rattle.std.specs.List.{All, AllWithin, cons_option, filter_map, position_or_len}
 use Rattle.std.specs.List.Sorted.{IsNonDecreasingBy}
 use Rattle.sh_tree.specs.declared.limits.TheConstants.{MAX_COMMANDS}
 use Rattle.sh_tree.specs.declared.tree.Item.{Item}
@@ -17,11 +18,12 @@ use Rattle.sh_tree.proofs.ProgramRules.{script_of-out}
 use Rattle.sh_table.specs.declared.table.Row as declared
 use Rattle.sh_table.specs.declared.word_text.WordText.{WordText}
 use Rattle.sh_runs.specs.Calls.{Functions, Table, Row, defined, with_name, names_of, functions_of, row_of, table_of, texts_with, static_at, text_at, called, callee_at}
-use Rattle.sh_table.specs.KeptTable.{IsKept, row_in, callee_in, place_with, functions_in, table_in, found_texts}
+use Rattle.sh_table.specs.KeptTable.{IsKept, IsNamed, row_in, callee_in, place_with, functions_in, table_in, found_texts}
 use Rattle.sh_runs.specs.standard.Kinds.{kind_of, is_special}
 use Rattle.sh_runs.specs.Profile.{Static}
 use Rattle.sh_runs.specs.Sites.{Site, by_number, sites_of}
 use Rattle.sh_runs.specs.Surroundings.{items_located}
+use Rattle.sh_table.specs.declared.table.Named.{Named}
 use Rattle.sh_table.specs.WordTexts.{text_in}
 use Rattle.sh_runs.specs.standard.runs.Environment.{is_one_of}
 use Rattle.sh_runs.proofs.PositionLemmas.{place, place_later}
@@ -123,16 +125,17 @@ names_few b t =
     let rows = length-map ss row_of in
     omega (arith, named, some, rows)
 
-pub kept : (b : List ℕ) (t : Script) (f : Functions) (rs : List declared.Row) (cs : List (Option ℕ)) → length f.names ≤ MAX_COMMANDS → map (row_in b) rs ≡ map row_of (sites_of (script_of b t))
-    → cs ≡ map (callee_in b f.names) rs → IsKept b f rs cs
-kept b t f rs cs few r called = record { few = few; ordered = numbers_rise b (script_of b t) rs r; callees = called }
+pub kept : (b : List ℕ) (t : Script) (f : Functions) (rs : List declared.Row) (cs : List (Option ℕ)) (ns : List Named) → length f.names ≤ MAX_COMMANDS → map (row_in b) rs ≡ map row_of (sites_of (script_of b t))
+    → cs ≡ map (callee_in b f.names) rs → All (IsNamed b f.names) ns → IsKept b f rs cs ns
+kept b t f rs cs ns few r called placed = record { few = few; ordered = numbers_rise b (script_of b t) rs r; callees = called; named = placed }
 
 -- of a script without items
 
-pub empty_kept : (b : Text) (f : Functions) (rs : List declared.Row) (cs : List (Option ℕ)) → f ≡ functions_in [] [] → rs ≡ [] → cs ≡ [] → IsKept b f rs cs
-empty_kept b f [] [] fs r c = record { few = rw fs (omega arith); ordered = never_falls [] tt; callees = refl }
-empty_kept b f [] (c ∷ cs) fs r e = cc
-empty_kept b f (x ∷ xs) cs fs r c = cc
+pub empty_kept : (b : Text) (f : Functions) (rs : List declared.Row) (cs : List (Option ℕ)) (ns : List Named) → f ≡ functions_in [] [] → rs ≡ [] → cs ≡ [] → ns ≡ [] → IsKept b f rs cs ns
+empty_kept b f [] [] [] fs r c n = record { few = rw fs (omega arith); ordered = never_falls [] tt; callees = refl; named = All-nil (IsNamed b f.names) }
+empty_kept b f [] [] (n ∷ ns) fs r c e = cc
+empty_kept b f [] (c ∷ cs) ns fs r e n = cc
+empty_kept b f (x ∷ xs) cs ns fs r c n = cc
 
 no_sites : (b : Text) (xs : List Item) → xs ≡ [] → sites_of (items_from b xs) ≡ []
 unfolding sites_of by_number items_located items_from

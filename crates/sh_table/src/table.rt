@@ -1,6 +1,6 @@
 //! The call table of a script.
 ghost use Rattle.std.specs.Prelude.{◌≡◌, ◌≢◌, ℕ, List, true, ◌<◌, ◌≤◌, ◌-◌, ◌++◌, [], ◌∷◌, length, map, option_map, slice_get, get_or, Some, IfErr, IfOk, IfSome, IsErrOf, OnOk};
-ghost use Rattle.std.specs.List.{position_from};
+ghost use Rattle.std.specs.List.{All, position_from};
 ghost use Rattle.std.specs.List.Sorted.{IsNonDecreasingBy};
 ghost use Rattle.std.specs.Option.{option_copied};
 ghost use Rattle.std.specs.Str.{bytes_eq};
@@ -8,16 +8,17 @@ ghost use Rattle.sh_runs.specs.Calls as calls;
 ghost use Rattle.sh_table.specs.KeptTable as kept;
 ghost use Rattle.sh_table.specs.declared.table.Row as declared;
 ghost use Rattle.sh_tree.specs.declared.tree.Script.{Script, out-Script};
+ghost use Rattle.sh_tree.specs.standard.Tree.{text_of};
 ghost use Rattle.sh_tree.specs.standard.program.Trees.{script_of};
 ghost use Rattle.sh_runs.specs.Numbering as numbering;
 ghost use Rattle.sh_table.specs.WordTexts.{text_in};
 ghost use Rattle.sh_runs.specs.standard.runs.Environment.{is_one_of};
 
 use crate::found::Found;
-use crate::functions::Functions;
+use crate::functions::{Definition, Functions};
 use crate::word_text::WordText;
 use sh_runs::kind_of;
-use sh_tree::{MAX_COMMANDS, Refusal, Script};
+use sh_tree::{MAX_COMMANDS, Refusal, Script, Span};
 use std::alloc::{AllocError, Global};
 use std::marker::Model;
 
@@ -26,6 +27,13 @@ use std::marker::Model;
 pub struct Row {
     pub number: u32,
     pub texts: Vec<WordText>,
+}
+
+/// The span of a function's name where it is defined, and the function's place.
+#[derive(Clone, Copy)]
+pub struct Named {
+    pub name: Span,
+    pub place: Option<usize>,
 }
 
 /// The functions of a script with the commands that define them, and the static text of each word
@@ -37,6 +45,8 @@ pub struct CallTable<'s> {
     rows: Vec<Row>,
     // The function that each row's command calls.
     callees: Vec<Option<u32>>,
+    // A name may be long, so its function is found by the span.
+    named: Vec<Named>,
 }
 
 impl<'s> Model for CallTable<'s> {
@@ -50,7 +60,7 @@ impl<'s> Model for CallTable<'s> {
 
     ghost view = { λ t. kept.table_in t.script.now t.functions t.rows.items };
 
-    ghost invariant = { λ t. kept.IsKept t.script.now t.functions t.rows.items t.callees.items };
+    ghost invariant = { λ t. kept.IsKept t.script.now t.functions t.rows.items t.callees.items t.named.items };
 }
 
 // Whether the row at a place is the first with this number, if the numbers of rows do not fall.
@@ -165,6 +175,24 @@ fn callees_of(
     Ok(callees)
 }
 
+// The spans of the names of functions where they are defined, with the functions' places.
+fn named_of(
+    alloc: Global,
+    definitions: &[Definition],
+    functions: &Functions,
+    script: &[u8],
+) -> Result<Vec<Named>, AllocError>
+    ensures { IfOk result (λ named. All (kept.IsNamed script.now functions.now.names) named.items) }
+{
+    let mut named = Vec::with_capacity(alloc, definitions.len())?;
+    for definition in definitions {
+        let name = definition.name;
+        let place = functions.place(name.text(script));
+        named.push(Named { name, place })?;
+    }
+    Ok(named)
+}
+
 impl<'s> CallTable<'s> {
     /// The table of a script.
     ///
@@ -191,11 +219,13 @@ impl<'s> CallTable<'s> {
             return Err(Refusal::TooMany);
         }
         let callees = callees_of(alloc, rows.as_slice(), &functions, script)?;
+        let named = named_of(alloc, definitions.as_slice(), &functions, script)?;
         Ok(CallTable {
             script,
             functions,
             rows,
             callees,
+            named,
         })
     }
 
@@ -206,11 +236,13 @@ impl<'s> CallTable<'s> {
         let functions = Functions::none(alloc);
         let rows = Vec::new(alloc);
         let callees = Vec::new(alloc);
+        let named = Vec::new(alloc);
         CallTable {
             script,
             functions,
             rows,
             callees,
+            named,
         }
     }
 
@@ -273,6 +305,26 @@ impl<'s> CallTable<'s> {
         ensures { result ≡ position_from (λ other. bytes_eq other name.now) 0 self.now.functions.names }
     {
         self.functions.place(name)
+    }
+
+    /// The place of the function whose name is at a span, if the script has one. Where a function
+    /// is defined, the length of its name takes no time.
+    pub fn function_at(&self, name: Span) -> Option<usize>
+        ensures { result ≡ position_from (λ other. bytes_eq other (text_of self.now.script name)) 0 self.now.functions.names }
+    {
+        let at = self
+            .named
+            .partition_point(|named| named.name.start < name.start);
+        match self.named.get(at) {
+            Some(named) => {
+                if named.name == name {
+                    named.place
+                } else {
+                    self.function_place(name.text(self.script))
+                }
+            }
+            None => self.function_place(name.text(self.script)),
+        }
     }
 
     /// Whether the script has a function of this name (XCU 2.9.5).

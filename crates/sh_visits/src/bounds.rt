@@ -2,6 +2,7 @@
 //! known there (XCU 2.9.4, 2.9.5).
 ghost use Rattle.std.specs.Prelude.{◌≡◌, List, ℕ, fold};
 ghost use Rattle.std.specs.List.{list_any};
+ghost use Rattle.sh_tree.specs.standard.Tree.{text_of};
 ghost use Rattle.sh_tree.specs.declared.tree.ClauseEnd.TheVariants as clause;
 ghost use Rattle.sh_domain.specs.declared.rule.FlowRule.TheVariants.{F10, F11};
 ghost use Rattle.sh_domain.specs.Views.{Before};
@@ -324,8 +325,8 @@ fn tell_case<A: Asked>(
 }
 
 // The body of a function is where it returns.
-fn tell_returns<A: Asked>(claims: &Claims<'_>, name: &[u8], body: u32, asked: &mut A)
-    ensures { A.kept asked.new ≡ tells.returns_told A.asked (setting claims.now) name.now body (A.kept asked.old) }
+fn tell_returns<A: Asked>(claims: &Claims<'_>, name: Span, body: u32, asked: &mut A)
+    ensures { A.kept asked.new ≡ tells.returns_told A.asked (setting claims.now) (text_of (setting claims.now).script name) body (A.kept asked.old) }
 {
     let number = body;
     let rule = FlowRule::F13;
@@ -348,16 +349,16 @@ fn define(claims: &Claims<'_>, name: &[u8], known: &mut Knowledge)
 fn tell_define<A: Asked>(
     claims: &Claims<'_>,
     number: u32,
-    name: &[u8],
+    name: Span,
     body: &Command,
     asked: &mut A,
 )
-    ensures { A.kept asked.new ≡ tells.define_left A.asked (setting claims.now) number name.now body.now (A.kept asked.old) }
+    ensures { A.kept asked.new ≡ tells.define_left A.asked (setting claims.now) number (text_of (setting claims.now).script name) body.now (A.kept asked.old) }
 {
     let rule = FlowRule::F13;
     let mut behind = Knowledge::NotReached;
     claims.before_into(number, &mut behind);
-    define(claims, name, &mut behind);
+    define(claims, (&*claims).text(name), &mut behind);
     asked.bound(claims, Place::Zero(number), Fault { number, rule }, &behind);
     tell_returns(claims, name, body.number, asked);
 }
@@ -399,9 +400,7 @@ pub fn tell_compound<A: Asked>(
             gain_word(claims, word, &mut behind);
             tell_case(claims, number, &behind, clauses.as_slice(), asked);
         }
-        Kind::Define { name, body } => {
-            tell_define(claims, number, (&*claims).text(*name), body.get(), asked)
-        }
+        Kind::Define { name, body } => tell_define(claims, number, *name, body.get(), asked),
     }
 }
 

@@ -4,6 +4,7 @@ ghost use Rattle.std.specs.Prelude.{◌≡◌, fold, map, codes, if◌then◌els
 ghost use Rattle.std.specs.List.{list_any};
 ghost use Rattle.std.specs.Str.{bytes_eq};
 ghost use Rattle.sh_tree.specs.Lists.{elements_from};
+ghost use Rattle.sh_tree.specs.standard.Tree.{text_of};
 ghost use Rattle.sh_table.specs.WordTexts.{text_in};
 ghost use Rattle.sh_runs.specs.standard.runs.Environment.{is_one_of};
 ghost use Rattle.sh_domain.specs.Table.{prefixes};
@@ -22,7 +23,7 @@ use sh_operands::unset_operands;
 use sh_rules::elements::behind_into;
 use sh_rules::{Asked, Claims, Fault};
 use sh_table::{Kind, WordText, kind_of};
-use sh_tree::{Element, KnownName, is_name};
+use sh_tree::{Element, KnownName, Span, is_name};
 
 // Whether some run comes to the command.
 fn is_reached(claims: &Claims<'_>, number: u32) -> bool
@@ -39,11 +40,11 @@ fn is_reached(claims: &Claims<'_>, number: u32) -> bool
 fn drop_variable<A: Asked>(
     claims: &Claims<'_>,
     number: u32,
-    function: &[u8],
+    function: Span,
     name: &[u8],
     asked: &mut A,
 )
-    ensures { A.kept asked.new ≡ spec.variable_dropped A.asked (setting claims.now) number function.now (A.kept asked.old) name.now }
+    ensures { A.kept asked.new ≡ spec.variable_dropped A.asked (setting claims.now) number (text_of (setting claims.now).script function) (A.kept asked.old) name.now }
 {
     let rule = FlowRule::F13;
     asked.drop_variable(claims, function, Fault { number, rule }, name);
@@ -53,11 +54,11 @@ fn drop_variable<A: Asked>(
 fn drop_function<A: Asked>(
     claims: &Claims<'_>,
     number: u32,
-    function: &[u8],
+    function: Span,
     name: &[u8],
     asked: &mut A,
 )
-    ensures { A.kept asked.new ≡ spec.function_dropped A.asked (setting claims.now) number function.now (A.kept asked.old) name.now }
+    ensures { A.kept asked.new ≡ spec.function_dropped A.asked (setting claims.now) number (text_of (setting claims.now).script function) (A.kept asked.old) name.now }
 {
     let rule = FlowRule::F13;
     asked.drop_function(claims, function, Fault { number, rule }, name);
@@ -68,11 +69,11 @@ fn drop_function<A: Asked>(
 fn drop_defined<A: Asked>(
     claims: &Claims<'_>,
     number: u32,
-    function: &[u8],
+    function: Span,
     name: &[u8],
     asked: &mut A,
 )
-    ensures { A.kept asked.new ≡ spec.defined_dropped A.asked (setting claims.now) number function.now (A.kept asked.old) name.now }
+    ensures { A.kept asked.new ≡ spec.defined_dropped A.asked (setting claims.now) number (text_of (setting claims.now).script function) (A.kept asked.old) name.now }
 {
     if claims.calls.is_function(name) {
         drop_function(claims, number, function, name, asked);
@@ -85,11 +86,11 @@ fn drop_defined<A: Asked>(
 fn drop_variable_text<A: Asked>(
     claims: &Claims<'_>,
     number: u32,
-    function: &[u8],
+    function: Span,
     text: &WordText,
     asked: &mut A,
 )
-    ensures { A.kept asked.new ≡ losses.by_name (spec.variable_dropped A.asked (setting claims.now) number function.now) (A.kept asked.old) (text_in (setting claims.now).script text.now) }
+    ensures { A.kept asked.new ≡ losses.by_name (spec.variable_dropped A.asked (setting claims.now) number (text_of (setting claims.now).script function)) (A.kept asked.old) (text_in (setting claims.now).script text.now) }
 {
     if let Some(name) = text.get(claims.script) {
         if is_name(name) {
@@ -101,11 +102,11 @@ fn drop_variable_text<A: Asked>(
 fn drop_variables<A: Asked>(
     claims: &Claims<'_>,
     number: u32,
-    function: &[u8],
+    function: Span,
     texts: &[WordText],
     asked: &mut A,
 )
-    ensures { A.kept asked.new ≡ fold (losses.texts_with (setting claims.now) (spec.variable_dropped A.asked (setting claims.now) number function.now)) (A.kept asked.old) texts.now }
+    ensures { A.kept asked.new ≡ fold (losses.texts_with (setting claims.now) (spec.variable_dropped A.asked (setting claims.now) number (text_of (setting claims.now).script function))) (A.kept asked.old) texts.now }
 {
     for text in texts {
         drop_variable_text(claims, number, function, text, asked);
@@ -116,11 +117,11 @@ fn drop_variables<A: Asked>(
 fn drop_function_text<A: Asked>(
     claims: &Claims<'_>,
     number: u32,
-    function: &[u8],
+    function: Span,
     text: &WordText,
     asked: &mut A,
 )
-    ensures { A.kept asked.new ≡ losses.by_name (spec.defined_dropped A.asked (setting claims.now) number function.now) (A.kept asked.old) (text_in (setting claims.now).script text.now) }
+    ensures { A.kept asked.new ≡ losses.by_name (spec.defined_dropped A.asked (setting claims.now) number (text_of (setting claims.now).script function)) (A.kept asked.old) (text_in (setting claims.now).script text.now) }
 {
     if let Some(name) = text.get(claims.script) {
         if is_name(name) {
@@ -132,11 +133,11 @@ fn drop_function_text<A: Asked>(
 fn drop_functions<A: Asked>(
     claims: &Claims<'_>,
     number: u32,
-    function: &[u8],
+    function: Span,
     texts: &[WordText],
     asked: &mut A,
 )
-    ensures { A.kept asked.new ≡ fold (losses.texts_with (setting claims.now) (spec.defined_dropped A.asked (setting claims.now) number function.now)) (A.kept asked.old) texts.now }
+    ensures { A.kept asked.new ≡ fold (losses.texts_with (setting claims.now) (spec.defined_dropped A.asked (setting claims.now) number (text_of (setting claims.now).script function))) (A.kept asked.old) texts.now }
 {
     for text in texts {
         drop_function_text(claims, number, function, text, asked);
@@ -148,11 +149,11 @@ fn drop_variables_where<A: Asked>(
     takes: bool,
     claims: &Claims<'_>,
     number: u32,
-    function: &[u8],
+    function: Span,
     texts: &[WordText],
     asked: &mut A,
 )
-    ensures { A.kept asked.new ≡ losses.where_taken takes (setting claims.now) (spec.variable_dropped A.asked (setting claims.now) number function.now) (A.kept asked.old) texts.now }
+    ensures { A.kept asked.new ≡ losses.where_taken takes (setting claims.now) (spec.variable_dropped A.asked (setting claims.now) number (text_of (setting claims.now).script function)) (A.kept asked.old) texts.now }
 {
     if takes {
         drop_variables(claims, number, function, texts, asked);
@@ -164,11 +165,11 @@ fn drop_functions_where<A: Asked>(
     takes: bool,
     claims: &Claims<'_>,
     number: u32,
-    function: &[u8],
+    function: Span,
     texts: &[WordText],
     asked: &mut A,
 )
-    ensures { A.kept asked.new ≡ losses.where_taken takes (setting claims.now) (spec.defined_dropped A.asked (setting claims.now) number function.now) (A.kept asked.old) texts.now }
+    ensures { A.kept asked.new ≡ losses.where_taken takes (setting claims.now) (spec.defined_dropped A.asked (setting claims.now) number (text_of (setting claims.now).script function)) (A.kept asked.old) texts.now }
 {
     if takes {
         drop_functions(claims, number, function, texts, asked);
@@ -179,11 +180,11 @@ fn drop_functions_where<A: Asked>(
 fn drop_unset<A: Asked>(
     claims: &Claims<'_>,
     number: u32,
-    function: &[u8],
+    function: Span,
     operands: &[WordText],
     asked: &mut A,
 )
-    ensures { A.kept asked.new ≡ commands.drops_told A.asked (setting claims.now) number function.now (spec.unset_dropped (setting claims.now) (map (text_in (setting claims.now).script) operands.now)) (A.kept asked.old) }
+    ensures { A.kept asked.new ≡ commands.drops_told A.asked (setting claims.now) number (text_of (setting claims.now).script function) (spec.unset_dropped (setting claims.now) (map (text_in (setting claims.now).script) operands.now)) (A.kept asked.old) }
 {
     let (letters, names) = unset_operands(operands, claims.script);
     drop_variables_where(
@@ -208,11 +209,11 @@ fn drop_unset<A: Asked>(
 fn tell_unset<A: Asked>(
     claims: &Claims<'_>,
     number: u32,
-    function: &[u8],
+    function: Span,
     operands: &[WordText],
     asked: &mut A,
 )
-    ensures { A.kept asked.new ≡ commands.loses_told A.asked (setting claims.now) number function.now (spec.unset_dropped (setting claims.now) (map (text_in (setting claims.now).script) operands.now)) (A.kept asked.old) }
+    ensures { A.kept asked.new ≡ commands.loses_told A.asked (setting claims.now) number (text_of (setting claims.now).script function) (spec.unset_dropped (setting claims.now) (map (text_in (setting claims.now).script) operands.now)) (A.kept asked.old) }
 {
     if is_reached(claims, number) {
         drop_unset(claims, number, function, operands, asked);
@@ -221,8 +222,8 @@ fn tell_unset<A: Asked>(
 
 // OPTARG, which `getopts` may unset.
 #[tactic(auto, using(sh_rules::proofs::ReachedLemmas::optarg_there))]
-fn tell_optarg<A: Asked>(claims: &Claims<'_>, number: u32, function: &[u8], asked: &mut A)
-    ensures { A.kept asked.new ≡ commands.loses_told A.asked (setting claims.now) number function.now commands.option_argument (A.kept asked.old) }
+fn tell_optarg<A: Asked>(claims: &Claims<'_>, number: u32, function: Span, asked: &mut A)
+    ensures { A.kept asked.new ≡ commands.loses_told A.asked (setting claims.now) number (text_of (setting claims.now).script function) commands.option_argument (A.kept asked.old) }
 {
     if is_reached(claims, number) {
         drop_variable(claims, number, function, b"OPTARG", asked);
@@ -233,12 +234,12 @@ fn tell_optarg<A: Asked>(claims: &Claims<'_>, number: u32, function: &[u8], aske
 fn tell_utility<A: Asked>(
     claims: &Claims<'_>,
     number: u32,
-    function: &[u8],
+    function: Span,
     kind: Kind,
     operands: &[WordText],
     asked: &mut A,
 )
-    ensures { A.kept asked.new ≡ tells.utility_drops_by A.asked (setting claims.now) number function.now kind (map (text_in (setting claims.now).script) operands.now) (A.kept asked.old) }
+    ensures { A.kept asked.new ≡ tells.utility_drops_by A.asked (setting claims.now) number (text_of (setting claims.now).script function) kind (map (text_in (setting claims.now).script) operands.now) (A.kept asked.old) }
 {
     match kind {
         Kind::Special(KnownName::Unset) => tell_unset(claims, number, function, operands, asked),
@@ -254,11 +255,11 @@ fn tell_utility<A: Asked>(
 fn tell_callee<A: Asked>(
     claims: &Claims<'_>,
     number: u32,
-    function: &[u8],
+    function: Span,
     callee: &[u8],
     asked: &mut A,
 )
-    ensures { A.kept asked.new ≡ commands.loses_told A.asked (setting claims.now) number function.now ((certificate (setting claims.now)).drops callee.now) (A.kept asked.old) }
+    ensures { A.kept asked.new ≡ commands.loses_told A.asked (setting claims.now) number (text_of (setting claims.now).script function) ((certificate (setting claims.now)).drops callee.now) (A.kept asked.old) }
 {
     if is_reached(claims, number) {
         let rule = FlowRule::F13;
@@ -271,11 +272,11 @@ fn tell_callee<A: Asked>(
 fn tell_builtin<A: Asked>(
     claims: &Claims<'_>,
     number: u32,
-    function: &[u8],
+    function: Span,
     callee: &[u8],
     asked: &mut A,
 )
-    ensures { A.kept asked.new ≡ commands.builtin_drops_told A.asked (setting claims.now) number function.now (bytes_eq callee.now (codes "getopts")) (A.kept asked.old) }
+    ensures { A.kept asked.new ≡ commands.builtin_drops_told A.asked (setting claims.now) number (text_of (setting claims.now).script function) (bytes_eq callee.now (codes "getopts")) (A.kept asked.old) }
 {
     if callee == b"getopts".as_slice() {
         tell_optarg(claims, number, function, asked);
@@ -286,12 +287,12 @@ fn tell_builtin<A: Asked>(
 fn drop_unknown<A: Asked>(
     claims: &Claims<'_>,
     number: u32,
-    function: &[u8],
+    function: Span,
     name: &[u8],
     known: &Knowledge,
     asked: &mut A,
 )
-    ensures { A.kept asked.new ≡ spec.unknown_dropped A.asked (setting claims.now) number function.now (facts_in (setting claims.now) known.now) (A.kept asked.old) name.now }
+    ensures { A.kept asked.new ≡ spec.unknown_dropped A.asked (setting claims.now) number (text_of (setting claims.now).script function) (facts_in (setting claims.now) known.now) (A.kept asked.old) name.now }
 {
     if !known.has_variable(claims.names, name) {
         drop_variable(claims, number, function, name, asked);
@@ -302,12 +303,12 @@ fn drop_unknown<A: Asked>(
 fn drop_prefix<A: Asked>(
     claims: &Claims<'_>,
     number: u32,
-    function: &[u8],
+    function: Span,
     element: &Element,
     known: &Knowledge,
     asked: &mut A,
 )
-    ensures { A.kept asked.new ≡ spec.prefix_dropped A.asked (setting claims.now) number function.now (facts_in (setting claims.now) known.now) (A.kept asked.old) element.now }
+    ensures { A.kept asked.new ≡ spec.prefix_dropped A.asked (setting claims.now) number (text_of (setting claims.now).script function) (facts_in (setting claims.now) known.now) (A.kept asked.old) element.now }
 {
     match element {
         Element::Assignment { name, .. } => {
@@ -328,12 +329,12 @@ fn drop_prefix<A: Asked>(
 fn drop_prefixes<A: Asked>(
     claims: &Claims<'_>,
     number: u32,
-    function: &[u8],
+    function: Span,
     elements: &[Element],
     known: &Knowledge,
     asked: &mut A,
 )
-    ensures { A.kept asked.new ≡ fold (spec.prefix_dropped A.asked (setting claims.now) number function.now (facts_in (setting claims.now) known.now)) (A.kept asked.old) elements.now }
+    ensures { A.kept asked.new ≡ fold (spec.prefix_dropped A.asked (setting claims.now) number (text_of (setting claims.now).script function) (facts_in (setting claims.now) known.now)) (A.kept asked.old) elements.now }
 {
     for element in elements {
         drop_prefix(claims, number, function, element, known, asked);
@@ -345,12 +346,12 @@ fn drop_prefixes<A: Asked>(
 fn tell_prefixes<A: Asked>(
     claims: &Claims<'_>,
     number: u32,
-    function: &[u8],
+    function: Span,
     elements: &[Element],
     known: &Knowledge,
     asked: &mut A,
 )
-    ensures { A.kept asked.new ≡ commands.drops_told A.asked (setting claims.now) number function.now (commands.unknown (facts_in (setting claims.now) known.now) (prefixes (elements_from (setting claims.now).script elements.now))) (A.kept asked.old) }
+    ensures { A.kept asked.new ≡ commands.drops_told A.asked (setting claims.now) number (text_of (setting claims.now).script function) (commands.unknown (facts_in (setting claims.now) known.now) (prefixes (elements_from (setting claims.now).script elements.now))) (A.kept asked.old) }
 {
     drop_prefixes(claims, number, function, elements, known, asked);
 }
@@ -359,12 +360,12 @@ fn tell_prefixes<A: Asked>(
 fn tell_call<A: Asked>(
     claims: &Claims<'_>,
     number: u32,
-    function: &[u8],
+    function: Span,
     callee: &[u8],
     elements: &[Element],
     asked: &mut A,
 )
-    ensures { A.kept asked.new ≡ tells.call_drops_by A.asked (setting claims.now) number function.now (elements_from (setting claims.now).script elements.now) callee.now (A.kept asked.old) }
+    ensures { A.kept asked.new ≡ tells.call_drops_by A.asked (setting claims.now) number (text_of (setting claims.now).script function) (elements_from (setting claims.now).script elements.now) callee.now (A.kept asked.old) }
 {
     tell_callee(claims, number, function, callee, asked);
     tell_builtin(claims, number, function, callee, asked);
@@ -377,14 +378,14 @@ fn tell_call<A: Asked>(
 fn tell_named<A: Asked>(
     claims: &Claims<'_>,
     number: u32,
-    function: &[u8],
+    function: Span,
     is_call: bool,
     name: &[u8],
     operands: &[WordText],
     elements: &[Element],
     asked: &mut A,
 )
-    ensures { A.kept asked.new ≡ tells.named_drops_by A.asked (setting claims.now) number function.now (elements_from (setting claims.now).script elements.now) is_call name.now (map (text_in (setting claims.now).script) operands.now) (A.kept asked.old) }
+    ensures { A.kept asked.new ≡ tells.named_drops_by A.asked (setting claims.now) number (text_of (setting claims.now).script function) (elements_from (setting claims.now).script elements.now) is_call name.now (map (text_in (setting claims.now).script) operands.now) (A.kept asked.old) }
 {
     if is_call {
         tell_call(claims, number, function, name, elements, asked);
@@ -398,14 +399,14 @@ fn tell_named<A: Asked>(
 #[tactic(auto, unfolding(sh_rules::specs::TextTells::drops_by, sh_rules::specs::Walks::setting))]
 pub fn tell_drops<A: Asked>(
     claims: &Claims<'_>,
-    function: &[u8],
+    function: Span,
     number: u32,
     texts: &[WordText],
     is_call: bool,
     elements: &[Element],
     asked: &mut A,
 )
-    ensures { A.kept asked.new ≡ tells.drops_by A.asked (setting claims.now) number function.now (elements_from (setting claims.now).script elements.now) is_call (map (text_in (setting claims.now).script) texts.now) (A.kept asked.old) }
+    ensures { A.kept asked.new ≡ tells.drops_by A.asked (setting claims.now) number (text_of (setting claims.now).script function) (elements_from (setting claims.now).script elements.now) is_call (map (text_in (setting claims.now).script) texts.now) (A.kept asked.old) }
 {
     if let [name, operands @ ..] = texts {
         if let Some(name) = name.get(claims.script) {

@@ -86,12 +86,12 @@ fn tell_continue<A: Asked>(
 fn tell_return_with<A: Asked>(
     claims: &Claims<'_>,
     number: u32,
-    name: &[u8],
+    name: Span,
     status: u32,
     known: &Knowledge,
     asked: &mut A,
 )
-    ensures { A.kept asked.new ≡ simple.returns_with_told A.asked (setting claims.now) number (facts_in (setting claims.now) known.now) (Some status) name.now (A.kept asked.old) }
+    ensures { A.kept asked.new ≡ simple.returns_with_told A.asked (setting claims.now) number (facts_in (setting claims.now) known.now) (Some status) (text_of (setting claims.now).script name) (A.kept asked.old) }
 {
     let rule = FlowRule::F15;
     let fault = Fault { number, rule };
@@ -107,11 +107,11 @@ fn tell_return_with<A: Asked>(
 fn tell_any_return<A: Asked>(
     claims: &Claims<'_>,
     number: u32,
-    name: &[u8],
+    name: Span,
     known: &Knowledge,
     asked: &mut A,
 )
-    ensures { A.kept asked.new ≡ simple.returns_with_told A.asked (setting claims.now) number (facts_in (setting claims.now) known.now) None name.now (A.kept asked.old) }
+    ensures { A.kept asked.new ≡ simple.returns_with_told A.asked (setting claims.now) number (facts_in (setting claims.now) known.now) None (text_of (setting claims.now).script name) (A.kept asked.old) }
 {
     let rule = FlowRule::F15;
     let fault = Fault { number, rule };
@@ -123,12 +123,12 @@ fn tell_any_return<A: Asked>(
 fn tell_return<A: Asked>(
     claims: &Claims<'_>,
     number: u32,
-    name: &[u8],
+    name: Span,
     status: Option<u32>,
     known: &Knowledge,
     asked: &mut A,
 )
-    ensures { A.kept asked.new ≡ simple.returns_with_told A.asked (setting claims.now) number (facts_in (setting claims.now) known.now) status name.now (A.kept asked.old) }
+    ensures { A.kept asked.new ≡ simple.returns_with_told A.asked (setting claims.now) number (facts_in (setting claims.now) known.now) status (text_of (setting claims.now).script name) (A.kept asked.old) }
 {
     match status {
         Some(status) => tell_return_with(claims, number, name, status, known, asked),
@@ -149,7 +149,7 @@ fn tell_returning<A: Asked>(
     ensures { A.kept asked.new ≡ simple.returns_told A.asked (setting claims.now) number (facts_in (setting claims.now) known.now) status (option_map (text_of (setting claims.now).script) function) (A.kept asked.old) }
 {
     if let Some(name) = function {
-        tell_return(claims, number, (&*claims).text(name), status, known, asked);
+        tell_return(claims, number, name, status, known, asked);
     }
 }
 

@@ -17,7 +17,7 @@ use crate::drops::tell_drops;
 use crate::simple::tell_simple;
 use sh_domain::{FlowRule, Knowledge};
 use sh_rules::{Around, Asked, Claims, Fault, Place, gain_redirects};
-use sh_tree::{Command, Element, Items, Kind, Redirect};
+use sh_tree::{Command, Element, Items, Kind, Redirect, Span};
 
 // The elements of a simple command.
 #[tactic(auto, using(sh_rules::proofs::VisitLemmas::simple_kinds))]
@@ -76,12 +76,12 @@ fn tell_claims<A: Asked>(
 // What a simple command drops of this function.
 fn tell_lost<A: Asked>(
     claims: &Claims<'_>,
-    function: &[u8],
+    function: Span,
     number: u32,
     elements: &[Element],
     asked: &mut A,
 )
-    ensures { A.kept asked.new ≡ spec.drops_as A.asked (setting claims.now) number (Some function.now) (Some (elements_from (setting claims.now).script elements.now)) (A.kept asked.old) }
+    ensures { A.kept asked.new ≡ spec.drops_as A.asked (setting claims.now) number (Some (text_of (setting claims.now).script function)) (Some (elements_from (setting claims.now).script elements.now)) (A.kept asked.old) }
 {
     let texts = claims.texts(number);
     let is_call = claims.is_call(number);
@@ -91,12 +91,12 @@ fn tell_lost<A: Asked>(
 // What a command drops of this function.
 fn tell_dropped<A: Asked>(
     claims: &Claims<'_>,
-    function: &[u8],
+    function: Span,
     number: u32,
     kind: &Kind,
     asked: &mut A,
 )
-    ensures { A.kept asked.new ≡ spec.counted_by A.asked (setting claims.now) number (Some function.now) (trees.kind_of (setting claims.now).script kind.now) (A.kept asked.old) }
+    ensures { A.kept asked.new ≡ spec.counted_by A.asked (setting claims.now) number (Some (text_of (setting claims.now).script function)) (trees.kind_of (setting claims.now).script kind.now) (A.kept asked.old) }
 {
     match elements_in(kind) {
         Some(elements) => tell_lost(claims, function, number, elements, asked),
@@ -115,9 +115,7 @@ fn tell_counted<A: Asked>(
     ensures { A.kept asked.new ≡ spec.counted_by A.asked (setting claims.now) number (option_map (text_of (setting claims.now).script) around.now.drops) (trees.kind_of (setting claims.now).script kind.now) (A.kept asked.old) }
 {
     match around.drops {
-        Some(function) => {
-            tell_dropped(claims, (&*claims).text(function), number, kind, asked);
-        }
+        Some(function) => tell_dropped(claims, function, number, kind, asked),
         None => (),
     }
 }

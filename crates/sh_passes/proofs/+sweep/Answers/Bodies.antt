@@ -10,12 +10,9 @@ use Rattle.sh_domain.specs.declared.rule.FlowRule.{FlowRule}
 use Rattle.sh_domain.specs.Admitted.{functions_in}
 use Rattle.sh_domain.specs.Entries as entries
 use Rattle.sh_domain.specs.Entries.{Around}
-use Rattle.sh_domain.specs.Facts.{facts}
 use Rattle.sh_domain.specs.Knowledge.{knowledge_facts}
-use Rattle.sh_domain.specs.Order.{IsWithin}
 use Rattle.sh_domain.specs.Views.{ReturnsNonzero, ReturnsZero, Seen}
 use Rattle.sh_rules.specs.Walks as walks
-use Rattle.sh_drafts.specs.Places.{claim_there, place_of}
 use Rattle.sh_sweeps.specs.Sweeps.{IsInside, IsPart}
 use Rattle.sh_drafts.specs.Ready.{IsReady}
 use Rattle.sh_sweeps.proofs.BeforeLemmas.{returns_nonzero, returns_zero, there_if}
@@ -121,9 +118,9 @@ sweep_body-lower_return-requires-clause-stands t c = λ unstated.
     let w = c.requires.placed in
     let k = knowledge_facts s.names.now c.zero_of-zero.result in
     let fs = functions_in s.script.now s.tree.now in
-    there_if s fs (ReturnsZero c.text-text.result.now) k c.place_in-place.result c.place_in-place.ensures.there (λ other keeps.
-    subst (λ u. IsWithin (facts (claim_there other (place_of fs (ReturnsZero u)))) k) (sym c.text-text.ensures)
-    (returns_zero s c.requires.ready.admitted w.0 w.1 w.2 w.3 w.4 (text_of s.script.now c.args.name) c.args.body.now w.5 w.6 unstated k c.zero_of-zero.ensures other keeps))
+    let name = text_of s.script.now c.args.name in
+    there_if s fs (ReturnsZero name) k c.place_in-place.result c.place_in-place.ensures.there (λ other keeps.
+    returns_zero s c.requires.ready.admitted w.0 w.1 w.2 w.3 w.4 name c.args.body.now w.5 w.6 unstated k c.zero_of-zero.ensures other keeps)
 
 pub sweep_body-lower_return-requires-2-clause-ready : goal.bodies::sweep_body-lower_return-requires-2-clause-ready
 sweep_body-lower_return-requires-2-clause-ready t c =
@@ -136,9 +133,9 @@ sweep_body-lower_return-requires-2-clause-stands t c = λ unstated.
     let w = c.requires.placed in
     let k = knowledge_facts s.names.now c.nonzero_of-nonzero.result in
     let fs = functions_in s.script.now s.tree.now in
-    there_if s fs (ReturnsNonzero c.text-text.result.now) k c.place_in-other.result c.place_in-other.ensures.there (λ other keeps.
-    subst (λ u. IsWithin (facts (claim_there other (place_of fs (ReturnsNonzero u)))) k) (sym c.text-text.ensures)
-    (returns_nonzero s c.requires.ready.admitted w.0 w.1 w.2 w.3 w.4 (text_of s.script.now c.args.name) c.args.body.now w.5 w.6 unstated k c.nonzero_of-nonzero.ensures other keeps))
+    let name = text_of s.script.now c.args.name in
+    there_if s fs (ReturnsNonzero name) k c.place_in-other.result c.place_in-other.ensures.there (λ other keeps.
+    returns_nonzero s c.requires.ready.admitted w.0 w.1 w.2 w.3 w.4 name c.args.body.now w.5 w.6 unstated k c.nonzero_of-nonzero.ensures other keeps)
 
 pub sweep_body-nonzero_of-nonzero-requires : goal.bodies::sweep_body-nonzero_of-nonzero-requires
 sweep_body-nonzero_of-nonzero-requires t c =

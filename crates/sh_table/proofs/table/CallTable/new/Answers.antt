@@ -33,7 +33,7 @@ invariant_of-result c =
     let size = c.len.ensures in
     let few = c.if-len.false in
     let callees = rw c.as_slice-2.ensures.value at c.in_ok-callees.ensures in
-    kept b c.args.tree.now c.in_ok-functions.functions _ _ (rw size at few) c.in_ok-rows.ensures.rows callees
+    kept b c.args.tree.now c.in_ok-functions.functions _ _ _ (rw size at few) c.in_ok-rows.ensures.rows callees c.in_ok-named.ensures
 
 pub returns-clause-tables : goal.returns-clause-tables
 returns-clause-tables c =
