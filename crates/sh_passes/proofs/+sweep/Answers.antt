@@ -3,40 +3,32 @@ mod Choices
 mod Items
 mod Links
 mod Words
-use Rattle.std.proofs.Common.{rules as std_rules, arith, ap, length, true, ◌≡◌, ◌<◌, ◌≤◌, ◌+◌, ◌∷◌, ◌++◌, ◌∙◌, [], ℕ, List, drop, refl, sym, subst}
-use Rattle.std.proofs.lemmas.List.{drop_all}
+use Rattle.std.proofs.Common.{rules as std_rules, length, true, ◌≡◌, ◌<◌, ◌≤◌, ◌+◌, ◌∷◌, ◌++◌, ◌∙◌, [], drop, sym, subst}
 use Rattle.sh_tree.specs.standard.Tree.{text_of}
-use Rattle.sh_tree.specs.declared.tree.AndOr.{out-AndOr}
-use Rattle.sh_tree.specs.declared.tree.Branch.{Branch, out-Branch}
-use Rattle.sh_tree.specs.declared.tree.Clause.{Clause, out-Clause}
 use Rattle.sh_tree.specs.declared.tree.Command.{out-Command}
-use Rattle.sh_tree.specs.declared.tree.Element.{Element}
-use Rattle.sh_tree.specs.declared.tree.Item.{Item, out-Item}
-use Rattle.sh_tree.specs.declared.tree.Link.{Link}
-use Rattle.sh_tree.specs.declared.tree.Pipe.{Pipe, out-Pipe}
-use Rattle.sh_tree.specs.Lists.{branches_from, clauses_from, elements_from, for_words_from, operands_from, otherwise_from, parts_from, redirects_from, words_from}
+use Rattle.sh_tree.specs.declared.tree.Item.{out-Item}
+use Rattle.sh_tree.specs.declared.tree.Pipe.{out-Pipe}
+use Rattle.sh_tree.specs.Lists.{elements_from, for_words_from, redirects_from}
 use Rattle.sh_tree.specs.standard.program.Syntax as p
-use Rattle.sh_tree.specs.standard.program.Trees as trees
-use Rattle.sh_tree.specs.standard.program.Trees.{expression_of, operator_of, parameter_of, part_of, script_of, target_of}
+use Rattle.sh_tree.specs.standard.program.Trees.{script_of}
 use Rattle.sh_tree.proofs.ProgramRules as program
-use Rattle.sh_domain.specs.declared.rule.FlowRule.TheVariants.{F2, F3, F6, F7, F8, F9, F10, F11, F12, F13}
+use Rattle.sh_domain.specs.declared.rule.FlowRule.TheVariants.{F7, F8, F10, F11, F12, F13}
 use Rattle.sh_domain.specs.Entries as entries
 use Rattle.sh_domain.specs.Entries.{Around}
-use Rattle.sh_domain.specs.Facts.{Facts, NotReached, meet}
-use Rattle.sh_domain.specs.Gains.{and_gains, assigned_in, expanded_gains, named, operands_gains, operator_gains, part_gains, redirect_gains, word_gains}
+use Rattle.sh_domain.specs.Facts.{Facts, meet}
 use Rattle.sh_domain.specs.Knowledge.{knowledge_facts}
 use Rattle.sh_domain.specs.Table.{behind_words}
-use Rattle.sh_domain.specs.Views.{Before, Both, Head, Seen, at, gaining, without_job}
-use Rattle.sh_rules.specs.Behind.{Behind, both, in_any_case}
+use Rattle.sh_domain.specs.Views.{Before, Both, Head, Seen, at, without_job}
+use Rattle.sh_rules.specs.Behind.{both, in_any_case}
 use Rattle.sh_rules.specs.Walks as walks
 use Rattle.sh_rules.specs.Walks.{facts_in}
 use Rattle.sh_rules.proofs.LedLemmas.{turns_led}
-use Rattle.sh_sweeps.specs.Sweeps.{AreBranches, AreClauses, AreElements, AreItems, AreLinks, AreParts, Gained, IsAndOr, IsCommand, IsIn, IsInside, IsKind, IsList, IsPart, IsPipe, IsWord, Knows, known_behind, setting_by}
+use Rattle.sh_sweeps.specs.Sweeps.{AreItems, AreParts, IsAndOr, IsCommand, IsIn, IsInside, IsKind, IsList, IsPart, Knows, known_behind, setting_by}
 use Rattle.sh_drafts.specs.Ready.{IsReady}
-use Rattle.sh_sweeps.proofs.PlacedLemmas.{at_index, background_placed, begun_at, body_placed, branch_body, branch_condition, branches_next, branches_placed, case_placed, clause_list, clauses_next, clauses_placed, command_placed, condition_placed, definition_placed, else_placed, for_placed, foreground_placed, goes_last, goes_next, GoesOn, group_placed, inside_placed, items_next, known_after, link_placed, links_next, links_placed, long_placed, next_goes, next_item, parts_next, pipe_placed, short_placed, subshell_placed}
+use Rattle.sh_sweeps.proofs.PlacedLemmas.{at_index, background_placed, begun_at, body_placed, command_placed, condition_placed, definition_placed, for_placed, foreground_placed, group_placed, inside_placed, known_after, long_placed, parts_next, short_placed, subshell_placed}
 use Rattle.sh_sweeps.proofs.SweepLemmas.{knows_follow, stands_of}
-use Rattle.sh_drafts.proofs.ReadyLemmas.{names_numbered, ready_again, swept_more, swept_none}
-use Rattle.sh_sweeps.proofs.WordLemmas.{Along, along_first, along_no_operands, along_no_parts, along_operands, along_parts, arithmetic_gained, arithmetic_placed, assigned_gained, assigned_placed, both_gained, case_word, chain_first, chain_gained, chain_rest, choice_condition, choice_gained, choice_no, choice_yes, clause_patterns, double_gained, double_placed, element_as, elements_first, elements_placed, expanded_gained, expanded_placed, expansion_gained, expansion_placed, expression_as, expression_gained, file_gained, file_placed, for_words_placed, gained_nowhere, here_gained, here_placed, if_ok, kind_as, kind_placed, link_expression, listed_placed, literal_gained, nothing_gained, operand_inside, operand_next, operand_placed, operands_next, parenthesis_gained, parenthesis_placed, part_as, part_gained, part_placed, pattern_placed, patterns_next, pieces_next, plain_gained, redirect_placed, redirection_next, redirection_placed, redirections_placed, redirects_next, remove_placed, signed_gained, signed_placed, substitution_placed, use_gained, use_placed, value_next, value_placed, word_placed, words_next}
+use Rattle.sh_drafts.proofs.ReadyLemmas.{names_numbered, ready_again, swept_more}
+use Rattle.sh_sweeps.proofs.WordLemmas.{elements_placed, for_words_placed, if_ok, kind_as, kind_placed, redirections_placed}
 use Rattle.sh_passes.proofs.+sweep.Goals as goal
 use Rattle.sh_passes.proofs.+sweep.Answers.Bodies as bodies
 use Rattle.sh_passes.proofs.+sweep.Answers.Items as items
@@ -80,39 +72,16 @@ sweep::enter_process-sweep_and_or-requires t c =
     search std_rules
 
 pub sweep::sweep_and_or-sweep_pipe-requires : goal.sweep::sweep_and_or-sweep_pipe-requires
-sweep::sweep_and_or-sweep_pipe-requires t c =
-    let s = c.args.subject.now in
-    let y = walks.around s.script.now c.args.around.now in
-    let placed : IsPipe s c.args.by y (knowledge_facts s.names.now c.args.known.now) (out-AndOr c.args.list.now).first = pipe_placed s c.args.by y (knowledge_facts s.names.now c.args.known.now) c.args.list.now c.requires.placed in
-    search std_rules
+sweep::sweep_and_or-sweep_pipe-requires = links.sweep_and_or-sweep_pipe-requires
 
 pub sweep::sweep_and_or-pipe_if-behind-requires : goal.sweep::sweep_and_or-pipe_if-behind-requires
-sweep::sweep_and_or-pipe_if-behind-requires t c =
-    let s = c.args.subject.now in
-    let ready : IsReady s c.sweep_pipe.new.draft.certificate c.sweep_pipe.new.draft.probe.count = ready_again s _ _ _ _ c.requires.ready c.in_ok-sweep_pipe.ensures.swept in
-    search std_rules
+sweep::sweep_and_or-pipe_if-behind-requires = links.sweep_and_or-pipe_if-behind-requires
 
 pub sweep::sweep_and_or-sweep_links-requires : goal.sweep::sweep_and_or-sweep_links-requires
-sweep::sweep_and_or-sweep_links-requires t c =
-    let s = c.args.subject.now in
-    let r = c.requires.ready in
-    let y = walks.around s.script.now c.args.around.now in
-    let ready : IsReady s c.sweep_pipe.new.draft.certificate c.sweep_pipe.new.draft.probe.count = ready_again s _ _ _ _ r c.in_ok-sweep_pipe.ensures.swept in
-    let placed : AreLinks s y (known_behind s c.pipe_if-behind.result) c.as_slice-links.result.now =
-    subst (AreLinks s y (known_behind s c.pipe_if-behind.result)) (sym c.as_slice-links.ensures)
-    (links_placed s c.args.by y (knowledge_facts s.names.now c.args.known.now) c.args.list.now (known_behind s c.pipe_if-behind.result) c.pipe_if-behind.ensures c.requires.placed) in
-    search std_rules
+sweep::sweep_and_or-sweep_links-requires = links.sweep_and_or-sweep_links-requires
 
 pub sweep::sweep_and_or-sweep_links_again-requires : goal.sweep::sweep_and_or-sweep_links_again-requires
-sweep::sweep_and_or-sweep_links_again-requires t c =
-    let s = c.args.subject.now in
-    let y = walks.around s.script.now c.args.around.now in
-    let ready : IsReady s c.sweep_links.new.draft.certificate c.sweep_links.new.draft.probe.count = ready_again s _ _ _ _ (ready_again s _ _ _ _ c.requires.ready c.in_ok-sweep_pipe.ensures.swept) c.in_ok-sweep_links.ensures.swept in
-    let here : AreLinks s y (known_behind s c.pipe_if-behind.result) c.as_slice-links.result.now =
-    subst (AreLinks s y (known_behind s c.pipe_if-behind.result)) (sym c.as_slice-links.ensures)
-    (links_placed s c.args.by y (knowledge_facts s.names.now c.args.known.now) c.args.list.now (known_behind s c.pipe_if-behind.result) c.pipe_if-behind.ensures c.requires.placed) in
-    let placed : (k : Behind) × AreLinks s y k c.as_slice-links.result.now = (_, here) in
-    search std_rules
+sweep::sweep_and_or-sweep_links_again-requires = links.sweep_and_or-sweep_links_again-requires
 
 pub links::sweep_links_again-sweep_links-requires : goal.links::sweep_links_again-sweep_links-requires
 links::sweep_links_again-sweep_links-requires = links.sweep_links_again-sweep_links-requires
@@ -232,9 +201,7 @@ sweep::sweep_loop-sweep_list-requires t c =
     search std_rules
 
 pub sweep::sweep_and_or-returns : goal.sweep::sweep_and_or-returns
-sweep::sweep_and_or-returns t c =
-    let s = c.args.subject.now in
-    record { swept = if_ok c.sweep_links_again.result _ _ (λ u h. swept_more s _ _ _ _ _ (swept_more s _ _ _ _ _ c.in_ok-sweep_pipe.ensures.swept c.in_ok-sweep_links.ensures.swept) h) c.sweep_links_again.ensures.swept }
+sweep::sweep_and_or-returns = links.sweep_and_or-returns
 
 pub sweep::sweep_inside-returns : goal.sweep::sweep_inside-returns
 sweep::sweep_inside-returns t c = record { swept = if_ok c.sweep_kind.result _ _ (λ u h. swept_more c.args.subject.now _ _ _ _ _ c.in_ok-sweep_redirections.ensures.swept h) c.sweep_kind.ensures.swept }
