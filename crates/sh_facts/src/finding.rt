@@ -6,7 +6,7 @@ use sh_domain::{Names, precedes};
 use sh_tree::MAX_NAMES;
 
 /// The number of a name. It is looked for from a place of the byte order on, and the next one from
-/// behind it. So names that rise are found without a hash, and many names may have one hash.
+/// after it. So names that rise are found without a hash, and many names may have one hash.
 pub fn number_from(names: &Names, name: &[u8], place: &mut usize) -> Option<u32>
     requires { are_distinct names.now ≡ true }
     ensures { result ≡ number_of names.now name.now }
