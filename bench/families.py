@@ -364,6 +364,17 @@ def long_body(opens, piece, closes=""):
     return of
 
 
+def long_function(piece, before=""):
+    """The name of a function takes a third of the text, and its body is short commands."""
+
+    def of(size):
+        name = "f" * (size // 3)
+        room = size - 2 * len(name) - len(before) - 10
+        return before + name + "() {\n" + piece * max(1, room // len(piece)) + "}\n" + name + "\n"
+
+    return of
+
+
 def call_waves(order):
     """A chain of calls that is entered everywhere, each time with a parameter less."""
 
@@ -640,6 +651,9 @@ FAMILIES = {
     "long body of operands": (long_body("unset ", "z "), ()),
     "long body of clauses": (long_body("case x in ", "a);;", "esac"), ()),
     "long body of assignments": (long_body("x=$(b) ", "a= "), ()),
+    "long function of returns": (long_function("a && return\n"), ()),
+    "long function of losses": (long_function("unset a\n"), ()),
+    "long function of calls": (long_function("g\n", "g() { unset x; }\n"), ()),
     "jumps": (jumps, ()),
     "call waves": (call_waves("rising"), ("--args", "65535")),
     "call waves mixed": (call_waves("mixed"), ("--args", "65535")),
