@@ -612,6 +612,7 @@ FAMILIES = {
     "shift stages": (shift_stages, ALL_PARAMETERS),
     "shift waves": (shift_waves, ALL_PARAMETERS),
     **{f"shift and {name}": (shift_beside(line), ALL_PARAMETERS) for name, line in BESIDE.items()},
+    "shift over sets": (of("while :; do shift\n", each('set -- $x "$@"\n'), "done\n"), ALL_PARAMETERS),
     "shift over processes": (of("while :; do shift; ( set --\n", each("a&"), "); done\n"), ALL_PARAMETERS),
     "shift over both": (of("while :; do shift; ( set --\n", each("a|b;c&"), "); done\n"), ALL_PARAMETERS),
     "shift over pipelines": (of("while :; do shift; ( set --\n", each("a|b;"), "); done\n"), ALL_PARAMETERS),

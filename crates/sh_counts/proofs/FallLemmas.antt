@@ -43,12 +43,12 @@ put_sound es counts now index to sound lt bound put =
 
 -- a count is lowered to what an equation gives
 pub lowered_sound : (es : Equations) (e : Equation) (counts now : List ℕ) (to : ℕ) → Follows es e → IsSound es counts
-    → e.count.index < length counts → to ≡ made e.change (worth counts e.source.index) → now ≡ set counts e.count.index to → IsSound es now
+    → e.count < length counts → to ≡ made e.change (worth counts e.source) → now ≡ set counts e.count to → IsSound es now
 lowered_sound es e counts now to follows sound lt given put =
-    put_sound es counts now e.count.index to sound lt
+    put_sound es counts now e.count to sound lt
     (λ v s.
     let step = follows v s in
-    let more = made_grows e.change (v e.source.index) (worth counts e.source.index) (sound.above v s e.source.index) in
+    let more = made_grows e.change (v e.source) (worth counts e.source) (sound.above v s e.source) in
     omega arith)
     put
 
@@ -103,7 +103,7 @@ went_none old = record { fell = fell_none old; less = λ e. cc; same = λ e. ref
 
 pub went_more : (old now next : List ℕ) (a b : Bool) (equations : List Equation) (i : ℕ) (d : Equation) → Went old now a (take i equations) → i < length equations
     → Fell now next → (b ≡ true → sum next < sum now) → (b ≡ false → next ≡ now)
-    → (b ≡ false → (get_or equations i d).count.index < length now → Holds (worth now) (get_or equations i d))
+    → (b ≡ false → (get_or equations i d).count < length now → Holds (worth now) (get_or equations i d))
     → Went old next (a || b) (take (i + 1) equations)
 went_more old now next a b equations i d went lt fell less same holds = record {
   fell = fell_more old now next went.fell fell;
@@ -111,8 +111,8 @@ went_more old now next a b equations i d went lt fell less same holds = record {
   same = λ none. let both = parts a b none in same both.1 ∙ went.same both.0;
   settled = λ none.
       let both = parts a b none in
-      let here = subst (λ (c : List ℕ). (get_or equations i d).count.index < length c → Holds (worth c) (get_or equations i d)) (went.same both.0) (holds both.1) in
-      all_more (λ f. f.count.index < length old → Holds (worth old) f) (take i equations) (take (i + 1) equations) (get_or equations i d) (take_more equations i d lt) (went.settled both.0) here;
+      let here = subst (λ (c : List ℕ). (get_or equations i d).count < length c → Holds (worth c) (get_or equations i d)) (went.same both.0) (holds both.1) in
+      all_more (λ f. f.count < length old → Holds (worth old) f) (take i equations) (take (i + 1) equations) (get_or equations i d) (take_more equations i d lt) (went.settled both.0) here;
 }
   where
     parts : (x y : Bool) → x || y ≡ false → (x ≡ false) × (y ≡ false)
@@ -138,13 +138,13 @@ pub none_led : (es : Equations) (head : ℕ) (reached : List Reach) → reached 
 none_led es head reached none = subst (All (λ (r : Reach). Leads es r.way r.index head)) (sym none) (All-nil _)
 
 -- what is bounded bounds the count of an equation
-pub led_on : (es : Equations) (way next : Way) (head from : ℕ) (e : Equation) → e.source.index ≡ from → Leads es way from head → Follows es e
+pub led_on : (es : Equations) (way next : Way) (head from : ℕ) (e : Equation) → e.source ≡ from → Leads es way from head → Follows es e
     → ((n : ℕ) → made_by next.times next.plus next.minus next.least next.most n ≡ made e.change (made_by way.times way.plus way.minus way.least way.most n))
-    → Leads es next e.count.index head
+    → Leads es next e.count head
 led_on es way next head from e same before follows is v s =
-    let far : v e.source.index ≤ made_by way.times way.plus way.minus way.least way.most (v head) = subst (λ n. v n ≤ made_by way.times way.plus way.minus way.least way.most (v head)) (sym same) (before v s) in
+    let far : v e.source ≤ made_by way.times way.plus way.minus way.least way.most (v head) = subst (λ n. v n ≤ made_by way.times way.plus way.minus way.least way.most (v head)) (sym same) (before v s) in
     let step = follows v s in
-    let more = made_grows e.change (v e.source.index) (made_by way.times way.plus way.minus way.least way.most (v head)) far in
+    let more = made_grows e.change (v e.source) (made_by way.times way.plus way.minus way.least way.most (v head)) far in
     let equal = is (v head) in
     omega arith
 
@@ -165,13 +165,6 @@ reach_bound es way index head counts count to sound leads same is v s =
 -- ---- the first counts
 pub all_follow : (es : Equations) → All (Follows es) es.all.items
 all_follow es k e lt v s = s.solves k e lt
-
--- an equation of a count and itself says nothing
-pub none_follows : (es : Equations) (e : Equation) → e.count.index ≡ e.source.index → e.change ≡ Raise 0 → Follows es e
-unfolding made
-none_follows es e same none v s =
-    let one : v e.count.index ≡ v e.source.index = ap v same in
-    subst (λ (h : Change). v e.count.index ≤ made h (v e.source.index)) (sym none) (let P : v e.count.index ≤ max (v e.source.index) 0 = omega arith in P)
 
 -- what is found is the greatest
 pub greatest_found : (es : Equations) (counts now : List ℕ) (all : List Equation) → all ≡ es.all.items

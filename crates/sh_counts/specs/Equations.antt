@@ -15,7 +15,7 @@ made (Words ones parameters) count = min 65535 (ones + parameters * count)
 
 -- with these numbers the count is at most what the equation makes of its source
 abbrev pub Holds : (ℕ → ℕ) → Equation → Type 0
-Holds v e = v e.count.index ≤ made e.change (v e.source.index)
+Holds v e = v e.count ≤ made e.change (v e.source)
 
 -- the number at a place of a list of counts; what is not there is not bounded
 abbrev pub worth : List ℕ → ℕ → ℕ
@@ -33,4 +33,4 @@ pub record IsGreatest (es : Equations) (counts : List ℕ) : Type 0 where
   pub sized : length counts ≡ length es.most.items
   pub above : (v : ℕ → ℕ) → Solution es v → (i : ℕ) → v i ≤ worth counts i
   pub below : (i : ℕ) → worth counts i ≤ worth es.most.items i
-  pub solves : All (λ e. e.count.index < length counts → Holds (worth counts) e) es.all.items
+  pub solves : All (λ e. e.count < length counts → Holds (worth counts) e) es.all.items

@@ -28,7 +28,7 @@ pub record Fell (old new : List ℕ) : Type 0 where
 
 -- each equation of a count that is there holds
 abbrev pub IsSettled : List ℕ → List Equation → Type 0
-IsSettled counts equations = All (λ e. e.count.index < length counts → Holds (worth counts) e) equations
+IsSettled counts equations = All (λ e. e.count < length counts → Holds (worth counts) e) equations
 
 -- in each solution the count `to` is at most what the way makes of the count `from`
 abbrev pub Leads : Equations → Way → ℕ → ℕ → Type 0

@@ -18,7 +18,7 @@ pub record IsFresh (old new : Equations) (count : Count) : Type 0 where
   pub most : new.most.items ≡ old.most.items ++ 65535 ∷ []
 
 abbrev pub equation : Count → Count → Change → Equation
-equation count source change = record { count = count; source = source; change = change }
+equation count source change = record { count = count.index; source = source.index; change = change }
 
 -- the count is what the change makes of the source: the source itself, or a new one with its
 -- equation

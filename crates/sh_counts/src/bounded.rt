@@ -11,14 +11,14 @@ use std::alloc::{AllocError, Global};
 /// A count, and the way to it from the count that bounds it.
 #[derive(Clone, Copy)]
 pub struct Reach {
-    pub index: usize,
+    pub index: u32,
     pub way: Way,
 }
 
 /// The counts that one count bounds, the head, in the order in which they were met.
 #[derive(Drop)]
 pub struct Bounded {
-    head: usize,
+    head: u32,
     reached: Vec<Reach>,
     // Which counts were met, from this head or one before.
     met: Vec<bool>,
@@ -43,7 +43,7 @@ impl Bounded {
     /// # Errors
     ///
     /// If a growth was refused.
-    pub fn begin(&mut self, head: usize) -> Result<(), AllocError>
+    pub fn begin(&mut self, head: u32) -> Result<(), AllocError>
         ensures head { self.new.head ≡ head }
         ensures led { OnOk result ((es : declared.Equations) → AreLed es self.new) }
     {
@@ -54,7 +54,7 @@ impl Bounded {
     }
 
     /// The head.
-    pub fn head(&self) -> usize
+    pub fn head(&self) -> u32
         ensures { result ≡ self.now.head }
     {
         self.head
@@ -75,12 +75,13 @@ impl Bounded {
     /// # Errors
     ///
     /// If a growth was refused.
-    pub fn add(&mut self, index: usize, way: Way) -> Result<(), AllocError>
+    pub fn add(&mut self, index: u32, way: Way) -> Result<(), AllocError>
         ensures head { self.new.head ≡ self.old.head }
         ensures led { OnOk result ((es : declared.Equations) → Leads es way index self.old.head → AreLed es self.old → AreLed es self.new) }
     {
-        if index < self.met.len() && !self.met[index] {
-            self.met[index] = true;
+        let at = index as usize;
+        if at < self.met.len() && !self.met[at] {
+            self.met[at] = true;
             self.reached.push(Reach { index, way })?;
         }
         Ok(())

@@ -1,7 +1,7 @@
 //! Equations over counts of positional parameters. They have no set of names (XCU 2.5.1).
 ghost use Rattle.std.specs.Prelude.{◌≡◌, ◌++◌, ◌∷◌, [], length, IfOk, OnOk, OnErr};
 ghost use Rattle.sh_counts.specs.Equations.{made};
-ghost use Rattle.sh_counts.specs.Meets.{Changes, IsLesser, Meets};
+ghost use Rattle.sh_counts.specs.Meets.{Changes, IsLesser, Meets, equation};
 
 use std::alloc::{AllocError, Global};
 
@@ -23,11 +23,12 @@ pub enum Change {
     Words { ones: u32, parameters: u32 },
 }
 
-/// A count is at most what a change makes of another count.
+/// A count is at most what a change makes of another count, its source. Scripts have many
+/// equations, so indices are short.
 #[derive(Clone, Copy, Debug, PartialEq, Eq)]
 pub struct Equation {
-    pub count: Count,
-    pub source: Count,
+    pub count: u32,
+    pub source: u32,
     pub change: Change,
 }
 
@@ -56,6 +57,16 @@ impl Change {
                 total.min(65_535) as u16
             }
         }
+    }
+}
+
+// The index of a count, in 32 bits.
+fn narrow(count: Count) -> Result<u32, AllocError>
+    ensures { IfOk result (λ index. index ≡ count.index) }
+{
+    match u32::try_from(count.index) {
+        Ok(index) => Ok(index),
+        Err(_) => Err(AllocError),
     }
 }
 
@@ -105,12 +116,14 @@ impl Equations {
     ///
     /// # Errors
     ///
-    /// If a growth was refused. The equations stay.
+    /// If a growth was refused, as one beyond 2^32 counts is. The equations stay.
     pub fn bound(&mut self, count: Count, source: Count, change: Change) -> Result<(), AllocError>
-        ensures ok { OnOk result (self.new.all.items ≡ self.old.all.items ++ record { count = count; source = source; change = change } ∷ []) }
+        ensures ok { OnOk result (self.new.all.items ≡ self.old.all.items ++ equation count source change ∷ []) }
         ensures err { OnErr result (self.new.all.items ≡ self.old.all.items) }
         ensures most { self.new.most.items ≡ self.old.most.items }
     {
+        let count = narrow(count)?;
+        let source = narrow(source)?;
         self.all.push(Equation {
             count,
             source,

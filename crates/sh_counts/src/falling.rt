@@ -8,7 +8,7 @@ ghost use Rattle.sh_counts.specs.Heads.{AreLed};
 
 use crate::bounded::{Bounded, Reach};
 use crate::circles::Way;
-use crate::equations::{Count, Equation, Equations};
+use crate::equations::{Equation, Equations};
 use crate::order::Order;
 use crate::users::Users;
 use std::alloc::{AllocError, Global};
@@ -19,7 +19,8 @@ use std::collections::BinaryHeap;
 #[derive(Drop)]
 struct Falling {
     counts: Vec<u16>,
-    // The equation by which each count fell last: a hint.
+    // The equation by which each count fell last: a hint. Its source alone does not tell, since
+    // `set -- $x "$@"` bounds a count by two changes of one source.
     reasons: Vec<Option<Equation>>,
     // The turns of those that wait. Turns go over all counts in an order, round by round: a hint.
     queue: BinaryHeap<Reverse<u64>>,
@@ -31,20 +32,12 @@ struct Falling {
     falls: usize,
 }
 
-fn no_reasons(alloc: Global, length: usize) -> Result<Vec<Option<Equation>>, AllocError> {
-    let mut reasons = Vec::new(alloc);
-    for _ in 0..length {
-        reasons.push(None)?;
-    }
-    Ok(reasons)
-}
-
 impl Falling {
     fn new(alloc: Global, most: &[u16], order: Order) -> Result<Falling, AllocError>
         ensures { IfOk result (λ falling. falling.counts.items ≡ most.now) }
     {
         let counts = Vec::from_slice(alloc, most)?;
-        let reasons = no_reasons(alloc, most.len())?;
+        let reasons = vec![in alloc; None::<Equation>; most.len()]?;
         let waiting = vec![in alloc; false; most.len()]?;
         Ok(Falling {
             counts,
@@ -57,24 +50,24 @@ impl Falling {
         })
     }
 
-    fn count(&self, count: Count) -> u16
-        ensures { result ≡ worth self.now.counts.items count.index }
+    fn count(&self, index: u32) -> u16
+        ensures { result ≡ worth self.now.counts.items index }
     {
-        match self.counts.get(count.index) {
+        match self.counts.get(index as usize) {
             Some(number) => *number,
             None => u16::MAX,
         }
     }
 
-    fn reason(&self, index: usize) -> Option<Equation> {
-        match self.reasons.get(index) {
+    fn reason(&self, index: u32) -> Option<Equation> {
+        match self.reasons.get(index as usize) {
             Some(reason) => *reason,
             None => None,
         }
     }
 
     // The next turn of a count of so many.
-    fn next_turn(&self, index: usize, counts: u64) -> u64 {
+    fn next_turn(&self, index: u32, counts: u64) -> u64 {
         let place = self.turn.checked_rem(counts).unwrap_or(0);
         let next = self.turn.saturating_sub(place);
         let next = next.saturating_add(self.order.place(index) as u64);
@@ -86,11 +79,12 @@ impl Falling {
     }
 
     // Puts a count that fell into the queue, unless it is in it.
-    fn wait(&mut self, index: usize) -> Result<(), AllocError>
+    fn wait(&mut self, index: u32) -> Result<(), AllocError>
         ensures { self.new.counts ≡ self.old.counts }
     {
-        if index < self.waiting.len() && !self.waiting[index] {
-            self.waiting[index] = true;
+        let at = index as usize;
+        if at < self.waiting.len() && !self.waiting[at] {
+            self.waiting[at] = true;
             let turn = self.next_turn(index, self.waiting.len() as u64);
             self.queue.push(Reverse(turn))?;
         }
@@ -98,25 +92,25 @@ impl Falling {
     }
 
     // Takes the count whose turn is next from the queue.
-    fn take(&mut self) -> Option<usize>
+    fn take(&mut self) -> Option<u32>
         ensures { self.new.counts ≡ self.old.counts }
     {
         let Reverse(turn) = self.queue.pop()?;
         self.turn = turn;
         let place = turn.checked_rem(self.waiting.len() as u64)?;
         let index = self.order.at(place as usize)?;
-        if index < self.waiting.len() {
-            self.waiting[index] = false;
+        if let Some(waits) = self.waiting.get_mut(index as usize) {
+            *waits = false;
         }
         Some(index)
     }
 
     // Lowers a count.
-    fn put(&mut self, index: usize, to: u16) -> Result<(), AllocError>
+    fn put(&mut self, index: u32, to: u16) -> Result<(), AllocError>
         requires { index < length self.old.counts.items }
         ensures { OnOk result (self.new.counts.items ≡ slice_set self.old.counts.items index to) }
     {
-        self.counts[index] = to;
+        self.counts[index as usize] = to;
         self.falls = self.falls.saturating_add(1);
         self.wait(index)
     }
@@ -125,21 +119,20 @@ impl Falling {
     fn note(&mut self, equation: Equation)
         ensures { self.new.counts ≡ self.old.counts }
     {
-        let index = equation.count.index;
-        if index < self.reasons.len() {
-            self.reasons[index] = Some(equation);
+        if let Some(reason) = self.reasons.get_mut(equation.count as usize) {
+            *reason = Some(equation);
         }
     }
 
     // What an equation lowers its count to, if it does.
     fn lowered(&self, equation: Equation) -> Option<u16>
-        ensures given { IfSome result (λ n. n ≡ made equation.change (worth self.now.counts.items equation.source.index)) }
-        ensures there { IfSome result (λ n. equation.count.index < length self.now.counts.items) }
-        ensures less { IfSome result (λ n. n < worth self.now.counts.items equation.count.index) }
-        ensures none { IfNone result (equation.count.index < length self.now.counts.items → worth self.now.counts.items equation.count.index ≤ made equation.change (worth self.now.counts.items equation.source.index)) }
+        ensures given { IfSome result (λ n. n ≡ made equation.change (worth self.now.counts.items equation.source)) }
+        ensures there { IfSome result (λ n. equation.count < length self.now.counts.items) }
+        ensures less { IfSome result (λ n. n < worth self.now.counts.items equation.count) }
+        ensures none { IfNone result (equation.count < length self.now.counts.items → worth self.now.counts.items equation.count ≤ made equation.change (worth self.now.counts.items equation.source)) }
     {
         let given = equation.change.of(self.count(equation.source));
-        if equation.count.index < self.counts.len() && given < self.count(equation.count) {
+        if (equation.count as usize) < self.counts.len() && given < self.count(equation.count) {
             Some(given)
         } else {
             None
@@ -152,12 +145,12 @@ impl Falling {
         ensures fell { OnOk result (Fell self.old.counts.items self.new.counts.items) }
         ensures less { IfOk result (λ b. b ≡ true → sum self.new.counts.items < sum self.old.counts.items) }
         ensures same { IfOk result (λ b. b ≡ false → self.new.counts.items ≡ self.old.counts.items) }
-        ensures holds { IfOk result (λ b. b ≡ false → equation.count.index < length self.old.counts.items → worth self.old.counts.items equation.count.index ≤ made equation.change (worth self.old.counts.items equation.source.index)) }
+        ensures holds { IfOk result (λ b. b ≡ false → equation.count < length self.old.counts.items → worth self.old.counts.items equation.count ≤ made equation.change (worth self.old.counts.items equation.source)) }
     {
         match self.lowered(equation) {
             Some(to) => {
                 self.note(equation);
-                self.put(equation.count.index, to)?;
+                self.put(equation.count, to)?;
                 Ok(true)
             }
             None => Ok(false),
@@ -179,39 +172,54 @@ impl Falling {
         Ok(has_fallen)
     }
 
+    // Lowers the counts of the equations that take from a count.
+    #[tactic(auto, using(crate::proofs::FallLemmas::fell_none))]
+    fn lower_users(&mut self, users: &Users<'_>, source: u32) -> Result<(), AllocError>
+        ensures sound { OnOk result ((es : declared.Equations) → All (Follows es) users.now.equations.now → StaysSound es self.old self.new) }
+        ensures fell { OnOk result (Fell self.old.counts.items self.new.counts.items) }
+    {
+        for place in 0..u32::MAX {
+            let Some(equation) = users.get(source, place) else {
+                return Ok(());
+            };
+            self.lower(equation)?;
+        }
+        Ok(())
+    }
+
     // Follows the reasons from a count, and marks each count that they meet. Returns a count of the
     // circle that they end in, if there is one and no count was marked by an earlier call.
-    fn circle(&self, marks: &mut [Option<usize>], index: usize) -> Option<usize> {
+    fn circle(&self, marks: &mut [Option<u32>], index: u32) -> Option<u32> {
         let mut at = index;
         for _ in 0..self.counts.len() {
-            let mark = marks.get_mut(at)?;
+            let mark = marks.get_mut(at as usize)?;
             if let Some(by) = *mark {
                 return if by == index { Some(at) } else { None };
             }
             *mark = Some(index);
-            at = self.reason(at)?.source.index;
+            at = self.reason(at)?.source;
         }
         Some(at)
     }
 
     // Lowers a count to a bound of it.
     #[tactic(auto, using(crate::proofs::FallLemmas::fell_none, crate::proofs::FallLemmas::put_fell))]
-    fn lower_to(&mut self, index: usize, bound: u16) -> Result<(), AllocError>
+    fn lower_to(&mut self, index: u32, bound: u16) -> Result<(), AllocError>
         ensures sound { OnOk result ((es : declared.Equations) → ((v : ℕ → ℕ) → Solution es v → v index ≤ bound) → StaysSound es self.old self.new) }
         ensures fell { OnOk result (Fell self.old.counts.items self.new.counts.items) }
     {
-        if index < self.counts.len() && bound < self.count(Count { index }) {
+        if (index as usize) < self.counts.len() && bound < self.count(index) {
             self.put(index, bound)?;
         }
         Ok(())
     }
 
     // Lowers a count to the greatest that a circle through it allows.
-    fn lower_round(&mut self, index: usize, way: Way) -> Result<(), AllocError>
+    fn lower_round(&mut self, index: u32, way: Way) -> Result<(), AllocError>
         ensures sound { OnOk result ((es : declared.Equations) → Leads es way index index → StaysSound es self.old self.new) }
         ensures fell { OnOk result (Fell self.old.counts.items self.new.counts.items) }
     {
-        let count = self.count(Count { index });
+        let count = self.count(index);
         self.lower_to(index, way.greatest(count))?;
         Ok(())
     }
@@ -233,8 +241,8 @@ impl Falling {
         let Some(way) = from.way.then(equation.change) else {
             return Ok(());
         };
-        let index = equation.count.index;
-        if equation.source.index != from.index {
+        let index = equation.count;
+        if equation.source != from.index {
             return Ok(());
         }
         if index == bounded.head() {
@@ -247,21 +255,24 @@ impl Falling {
         Ok(())
     }
 
-    // As `go_on`, by each of these equations.
+    // As `go_on`, by each equation that takes from the count.
     #[tactic(auto, using(crate::proofs::FallLemmas::fell_none, crate::proofs::FallLemmas::fell_more))]
     fn go_on_each(
         &mut self,
         bounded: &mut Bounded,
         from: Reach,
-        equations: &[Equation],
+        users: &Users<'_>,
     ) -> Result<(), AllocError>
-        ensures sound { OnOk result ((es : declared.Equations) → All (Follows es) equations.now → Leads es from.way from.index bounded.old.head → StaysSound es self.old self.new) }
+        ensures sound { OnOk result ((es : declared.Equations) → All (Follows es) users.now.equations.now → Leads es from.way from.index bounded.old.head → StaysSound es self.old self.new) }
         ensures fell { OnOk result (Fell self.old.counts.items self.new.counts.items) }
         ensures head { bounded.new.head ≡ bounded.old.head }
-        ensures led { OnOk result ((es : declared.Equations) → All (Follows es) equations.now → Leads es from.way from.index bounded.old.head → AreLed es bounded.old → AreLed es bounded.new) }
+        ensures led { OnOk result ((es : declared.Equations) → All (Follows es) users.now.equations.now → Leads es from.way from.index bounded.old.head → AreLed es bounded.old → AreLed es bounded.new) }
     {
-        for equation in equations {
-            self.go_on(bounded, from, *equation)?;
+        for place in 0..u32::MAX {
+            let Some(equation) = users.get(from.index, place) else {
+                return Ok(());
+            };
+            self.go_on(bounded, from, equation)?;
         }
         Ok(())
     }
@@ -269,17 +280,17 @@ impl Falling {
     // Meets the counts that the head bounds by reasons, and lowers the head to what each circle
     // through them allows. So the branches of a loop take one look, not one each.
     #[tactic(auto, using(crate::proofs::FallLemmas::fell_none, crate::proofs::FallLemmas::fell_more))]
-    fn close_all(&mut self, bounded: &mut Bounded, users: &Users) -> Result<(), AllocError>
-        ensures sound { OnOk result ((es : declared.Equations) → All (Follows es) users.now.equations.items → AreLed es bounded.old → StaysSound es self.old self.new) }
+    fn close_all(&mut self, bounded: &mut Bounded, users: &Users<'_>) -> Result<(), AllocError>
+        ensures sound { OnOk result ((es : declared.Equations) → All (Follows es) users.now.equations.now → AreLed es bounded.old → StaysSound es self.old self.new) }
         ensures fell { OnOk result (Fell self.old.counts.items self.new.counts.items) }
         ensures head { bounded.new.head ≡ bounded.old.head }
-        ensures led { OnOk result ((es : declared.Equations) → All (Follows es) users.now.equations.items → AreLed es bounded.old → AreLed es bounded.new) }
+        ensures led { OnOk result ((es : declared.Equations) → All (Follows es) users.now.equations.now → AreLed es bounded.old → AreLed es bounded.new) }
     {
         for place in 0..self.counts.len() {
             let Some(from) = bounded.get(place) else {
                 return Ok(());
             };
-            self.go_on_each(bounded, from, users.of_count(from.index))?;
+            self.go_on_each(bounded, from, users)?;
         }
         Ok(())
     }
@@ -301,11 +312,11 @@ impl Falling {
     }
 
     // Lowers a count to what its way makes of the head.
-    fn lower_reach(&mut self, head: usize, reach: Reach) -> Result<(), AllocError>
+    fn lower_reach(&mut self, head: u32, reach: Reach) -> Result<(), AllocError>
         ensures sound { OnOk result ((es : declared.Equations) → Leads es reach.way reach.index head → StaysSound es self.old self.new) }
         ensures fell { OnOk result (Fell self.old.counts.items self.new.counts.items) }
     {
-        let count = self.count(Count { index: head });
+        let count = self.count(head);
         self.lower_to(reach.index, reach.way.made(count))?;
         Ok(())
     }
@@ -315,10 +326,10 @@ impl Falling {
     fn lower_head(
         &mut self,
         bounded: &mut Bounded,
-        users: &Users,
-        head: usize,
+        users: &Users<'_>,
+        head: u32,
     ) -> Result<(), AllocError>
-        ensures sound { OnOk result ((es : declared.Equations) → All (Follows es) users.now.equations.items → StaysSound es self.old self.new) }
+        ensures sound { OnOk result ((es : declared.Equations) → All (Follows es) users.now.equations.now → StaysSound es self.old self.new) }
         ensures fell { OnOk result (Fell self.old.counts.items self.new.counts.items) }
     {
         bounded.begin(head)?;
@@ -330,14 +341,15 @@ impl Falling {
     // Lowers one count of each circle of reasons, and all that it bounds. Else it could fall by one
     // each time round.
     #[tactic(auto, using(crate::proofs::FallLemmas::fell_none, crate::proofs::FallLemmas::fell_more))]
-    fn lower_circles(&mut self, alloc: Global, users: &Users) -> Result<(), AllocError>
-        ensures sound { OnOk result ((es : declared.Equations) → All (Follows es) users.now.equations.items → StaysSound es self.old self.new) }
+    fn lower_circles(&mut self, alloc: Global, users: &Users<'_>) -> Result<(), AllocError>
+        ensures sound { OnOk result ((es : declared.Equations) → All (Follows es) users.now.equations.now → StaysSound es self.old self.new) }
         ensures fell { OnOk result (Fell self.old.counts.items self.new.counts.items) }
     {
         self.falls = 0;
-        let mut marks = no_marks(alloc, self.counts.len())?;
-        let mut bounded = Bounded::none(alloc, self.counts.len())?;
-        for index in 0..self.counts.len() {
+        let counts = self.counts.len();
+        let mut marks = vec![in alloc; None::<u32>; counts]?;
+        let mut bounded = Bounded::none(alloc, counts)?;
+        for index in 0..u32::try_from(counts).unwrap_or(u32::MAX) {
             if let Some(met) = self.circle(marks.as_mut_slice(), index) {
                 self.lower_head(&mut bounded, users, met)?;
             }
@@ -347,8 +359,8 @@ impl Falling {
 
     // Looks for circles if counts fell more often since the last look than there are counts.
     #[tactic(auto, using(crate::proofs::FallLemmas::fell_none))]
-    fn look_round(&mut self, alloc: Global, users: &Users) -> Result<(), AllocError>
-        ensures sound { OnOk result ((es : declared.Equations) → All (Follows es) users.now.equations.items → StaysSound es self.old self.new) }
+    fn look_round(&mut self, alloc: Global, users: &Users<'_>) -> Result<(), AllocError>
+        ensures sound { OnOk result ((es : declared.Equations) → All (Follows es) users.now.equations.now → StaysSound es self.old self.new) }
         ensures fell { OnOk result (Fell self.old.counts.items self.new.counts.items) }
     {
         if self.falls > self.counts.len() {
@@ -360,14 +372,14 @@ impl Falling {
     // Takes one count from the queue, and lowers those whose equations take from it. Returns
     // whether there was one.
     #[tactic(auto, using(crate::proofs::FallLemmas::fell_more))]
-    fn step(&mut self, alloc: Global, users: &Users) -> Result<bool, AllocError>
-        ensures sound { OnOk result ((es : declared.Equations) → All (Follows es) users.now.equations.items → StaysSound es self.old self.new) }
+    fn step(&mut self, alloc: Global, users: &Users<'_>) -> Result<bool, AllocError>
+        ensures sound { OnOk result ((es : declared.Equations) → All (Follows es) users.now.equations.now → StaysSound es self.old self.new) }
         ensures fell { OnOk result (Fell self.old.counts.items self.new.counts.items) }
     {
         self.look_round(alloc, users)?;
         match self.take() {
             Some(index) => {
-                self.lower_each(users.of_count(index))?;
+                self.lower_users(users, index)?;
                 Ok(true)
             }
             None => Ok(false),
@@ -376,8 +388,8 @@ impl Falling {
 
     // Lowers counts until none waits.
     #[tactic(auto, using(crate::proofs::FallLemmas::fell_none, crate::proofs::FallLemmas::fell_more))]
-    fn settle(&mut self, alloc: Global, users: &Users) -> Result<(), AllocError>
-        ensures sound { OnOk result ((es : declared.Equations) → All (Follows es) users.now.equations.items → StaysSound es self.old self.new) }
+    fn settle(&mut self, alloc: Global, users: &Users<'_>) -> Result<(), AllocError>
+        ensures sound { OnOk result ((es : declared.Equations) → All (Follows es) users.now.equations.now → StaysSound es self.old self.new) }
         ensures fell { OnOk result (Fell self.old.counts.items self.new.counts.items) }
     {
         for _ in 0..u64::MAX {
@@ -387,14 +399,6 @@ impl Falling {
         }
         Ok(())
     }
-}
-
-fn no_marks(alloc: Global, length: usize) -> Result<Vec<Option<usize>>, AllocError> {
-    let mut marks = Vec::new(alloc);
-    for _ in 0..length {
-        marks.push(None)?;
-    }
-    Ok(marks)
 }
 
 /// The greatest counts that solve all equations, by index.

@@ -8,8 +8,8 @@ use std::alloc::{AllocError, Global};
 #[derive(Drop)]
 pub struct Order {
     // The counts by their places, and the places by the counts.
-    counts: Vec<usize>,
-    places: Vec<usize>,
+    counts: Vec<u32>,
+    places: Vec<u32>,
 }
 
 impl Order {
@@ -18,13 +18,13 @@ impl Order {
     /// # Errors
     ///
     /// If a growth was refused.
-    pub fn of(alloc: Global, users: &Users, counts: usize) -> Result<Order, AllocError> {
+    pub fn of(alloc: Global, users: &Users<'_>, counts: usize) -> Result<Order, AllocError> {
         let mut search = Search {
             seen: vec![in alloc; false; counts]?,
             path: Vec::new(alloc),
             left: Vec::new(alloc),
         };
-        for index in 0..counts {
+        for index in 0..u32::try_from(counts).unwrap_or(u32::MAX) {
             search.go_from(users, index)?;
         }
         let mut counts = search.left;
@@ -34,15 +34,15 @@ impl Order {
     }
 
     /// The place of a count.
-    pub fn place(&self, index: usize) -> usize {
-        match self.places.get(index) {
+    pub fn place(&self, index: u32) -> u32 {
+        match self.places.get(index as usize) {
             Some(place) => *place,
             None => 0,
         }
     }
 
     /// The count at a place.
-    pub fn at(&self, place: usize) -> Option<usize> {
+    pub fn at(&self, place: usize) -> Option<u32> {
         self.counts.get(place).copied()
     }
 }
@@ -52,30 +52,31 @@ impl Order {
 struct Search {
     seen: Vec<bool>,
     // The counts that the search is in, each with how many of its equations it took.
-    path: Vec<(usize, usize)>,
+    path: Vec<(u32, u32)>,
     // The counts that it has left.
-    left: Vec<usize>,
+    left: Vec<u32>,
 }
 
 impl Search {
     // Goes into a count, unless it was there.
-    fn enter(&mut self, index: usize) -> Result<(), AllocError> {
-        if index < self.seen.len() && !self.seen[index] {
-            self.seen[index] = true;
+    fn enter(&mut self, index: u32) -> Result<(), AllocError> {
+        let at = index as usize;
+        if at < self.seen.len() && !self.seen[at] {
+            self.seen[at] = true;
             self.path.push((index, 0))?;
         }
         Ok(())
     }
 
     // Takes one equation of the innermost count, or leaves that. Returns whether it was in one.
-    fn step(&mut self, users: &Users) -> Result<bool, AllocError> {
+    fn step(&mut self, users: &Users<'_>) -> Result<bool, AllocError> {
         let Some((index, taken)) = self.path.pop() else {
             return Ok(false);
         };
-        match users.of_count(index).get(taken) {
+        match users.get(index, taken) {
             Some(equation) => {
                 self.path.push((index, taken.saturating_add(1)))?;
-                self.enter(equation.count.index)?;
+                self.enter(equation.count)?;
             }
             None => self.left.push(index)?,
         }
@@ -83,7 +84,7 @@ impl Search {
     }
 
     // Goes from a count to all that it has not met.
-    fn go_from(&mut self, users: &Users, index: usize) -> Result<(), AllocError> {
+    fn go_from(&mut self, users: &Users<'_>, index: u32) -> Result<(), AllocError> {
         self.enter(index)?;
         for _ in 0..u64::MAX {
             if !self.step(users)? {
@@ -95,12 +96,14 @@ impl Search {
 }
 
 // The place of each of these counts.
-fn places_of(alloc: Global, counts: &[usize]) -> Result<Vec<usize>, AllocError> {
-    let mut places = vec![in alloc; 0usize; counts.len()]?;
-    for (place, index) in counts.iter().enumerate() {
-        if let Some(to) = places.get_mut(*index) {
+fn places_of(alloc: Global, counts: &[u32]) -> Result<Vec<u32>, AllocError> {
+    let mut places = vec![in alloc; 0u32; counts.len()]?;
+    let mut place = 0u32;
+    for index in counts {
+        if let Some(to) = places.get_mut(*index as usize) {
             *to = place;
         }
+        place = place.saturating_add(1);
     }
     Ok(places)
 }

@@ -17,7 +17,7 @@ use Rattle.sh_tally.specs.Tallies.{IsTallied, claimed}
 
 -- an equation between counts that there are
 equation_tallied : (places : Places) (u : ℕ → ℕ) (old new : Equations) (e : Equation) (t : IsTallied places u old) → new.most.items ≡ old.most.items → new.all.items ≡ old.all.items ++ e ∷ []
-    → e.count.index < length old.most.items → e.source.index < length old.most.items → Holds t.v e → IsTallied places u new
+    → e.count < length old.most.items → e.source < length old.most.items → Holds t.v e → IsTallied places u new
 equation_tallied places u old new e t most all count source holds = record {
   v = t.v;
   few = t.few;
@@ -25,8 +25,8 @@ equation_tallied places u old new e t most all count source holds = record {
   holds = λ w agrees.
       let here : (i : ℕ) → i < length old.most.items → w i ≡ t.v i = λ i lt. agrees i (subst (λ m. i < length m) (sym most) lt) in
       let one : Holds w e =
-      subst (λ a. a ≤ made e.change (w e.source.index)) (sym (here e.count.index count))
-      (subst (λ a. t.v e.count.index ≤ made e.change a) (sym (here e.source.index source)) holds) in
+      subst (λ a. a ≤ made e.change (w e.source)) (sym (here e.count count))
+      (subst (λ a. t.v e.count ≤ made e.change a) (sym (here e.source source)) holds) in
       subst (All (Holds w)) (sym all) (All-push (Holds w) old.all.items e (t.holds w here) one);
   same = t.same;
   sized = subst (λ m. length places.counts.now ≤ length m) (sym most) t.sized;

@@ -26,10 +26,10 @@ end_place end.Zero = 1
 end_place end.Nonzero = 2
 
 abbrev pub command_index : Part → ℕ → ℕ
-command_index p number = number * 7 + part_place p
+command_index p number = number * 5 + part_place p
 
 abbrev pub function_index : End → ℕ → ℕ
-function_index e function = function * 7 + (4 + end_place e)
+function_index e function = (function * 3 + end_place e) * 5 + 4
 
 -- The index of the count of a slot, if the functions have these names.
 unfoldable pub index_of : List Text → Slot → Option ℕ

@@ -24,8 +24,8 @@ pub enum End {
     Nonzero,
 }
 
-/// The counts that a certificate claims: seven for each number from 0, four of the command and
-/// three of the function. A place to which no run comes has none.
+/// The counts that a certificate claims: five for each number from 0, four of the command and one of
+/// a function, of which every three numbers have one. A place to which no run comes has none.
 #[derive(Clone, Copy, Debug)]
 pub struct Places<'a> {
     pub counts: &'a [Option<u16>],
@@ -37,7 +37,7 @@ impl Part {
         ensures { result.index ≡ command_index self number }
     {
         Count {
-            index: number as usize * 7 + self.place(),
+            index: number as usize * 5 + self.place(),
         }
     }
 
@@ -62,7 +62,7 @@ impl End {
         ensures { result.index ≡ function_index self function }
     {
         Count {
-            index: function as usize * 7 + (4 + self.place()),
+            index: (function as usize * 3 + self.place()) * 5 + 4,
         }
     }
 

@@ -1,5 +1,5 @@
 -- Counts that are solved apart stay above those of each certificate that keeps the rules.
-use Rattle.std.proofs.Common.{◌≡◌, ℕ, zero, suc, ◌+◌, ◌-◌, ◌*◌, ◌<◌, ◌≤◌, min, not, Bool, true, false, Option, Some, None, option_map, List, [], ◌∷◌, ◌++◌, length, flat_map, get_or, is_some, refl, sym, ap, ap₂, ◌∙◌, subst, arith, true≢false}
+use Rattle.std.proofs.Common.{◌≡◌, ℕ, zero, suc, ◌+◌, ◌-◌, ◌*◌, ◌%◌, ◌<◌, ◌≤◌, min, not, Bool, true, false, Option, Some, None, option_map, List, [], ◌∷◌, ◌++◌, length, flat_map, get_or, is_some, refl, sym, ap, ap₂, ◌∙◌, subst, arith, true≢false}
 use Rattle.std.specs.Prelude.{IfSome, unwrap_or, option_and_then}
 use Rattle.std.specs.List.{list_all}
 use Rattle.std.proofs.lemmas.Bool.{and_parts}
@@ -38,11 +38,10 @@ use Rattle.sh_tally.specs.Counts.{HasAtMost}
 use Rattle.sh_tally.specs.Views.{end_place, function_index, index_of, part_place}
 use Rattle.sh_tally.specs.Walks as tally
 use Rattle.sh_tally.specs.Walks.{AreOver, HasCount, HasTexts, MayLack}
-use Rattle.sh_drafts.specs.declared.place.Part.{Part}
 use Rattle.sh_drafts.specs.declared.place.Part.TheVariants as part
 use Rattle.sh_drafts.specs.declared.place.Place.{Place}
 use Rattle.sh_drafts.specs.declared.subject.Subject.{Subject}
-use Rattle.sh_turns.specs.Counts.{AreClaimed, AreOverAll, AreUnsure, IsUnsure, args_at, args_of, count_place, index_by, may_lack, part_by, ranked_place}
+use Rattle.sh_turns.specs.Counts.{AreClaimed, AreOverAll, AreUnsure, IsUnsure, args_at, args_of, count_place, end_by, index_by, may_lack, part_by, ranked_place}
 use Rattle.sh_drafts.specs.Facts as number
 use Rattle.sh_drafts.specs.Kept.{fact_of}
 use Rattle.sh_drafts.specs.Numbers.{by_name, named}
@@ -60,24 +59,36 @@ use Rattle.sh_drafts.proofs.ReadyLemmas.{names_numbered}
 
 -- The places of counts
 
-ranked : (n r : ℕ) → r < 7 → Some (count_place (n * 7 + r)) ≡ Some (ranked_place n r)
-ranked n r low = ap Some (ap₂ ranked_place (div-mul-add n 7 r low) (mod-mul-add n 7 r low))
+ranked : (n r : ℕ) → r < 5 → Some (count_place (n * 5 + r)) ≡ Some (ranked_place n r)
+ranked n r low = ap Some (ap₂ ranked_place (div-mul-add n 5 r low) (mod-mul-add n 5 r low))
 
-ranked_function : (e : End) (own : Part) (r : ℕ) → r < 7 → ((k : ℕ) → function_index e k ≡ k * 7 + r) → ((k : ℕ) → ranked_place k r ≡ at own k) → (o : Option ℕ)
-    → option_map (at own) o ≡ option_map count_place (option_map (function_index e) o)
-ranked_function e own r low index place None = refl
-ranked_function e own r low index place (Some k) = ap Some (sym (place k)) ∙ sym (ranked k r low) ∙ ap (λ i. Some (count_place i)) (sym (index k))
+-- the place of an end of a function
+end_ranked : (k r : ℕ) → r < 3 → ranked_place (k * 3 + r) 4 ≡ at (end_by r) k
+unfolding part_by end_by index_by
+end_ranked k r low = ap₂ at (ap end_by whole) (ap (λ m. index_by (end_by m) (k * 3 + r)) whole ∙ number r)
+  where
+    whole : (k * 3 + r) % 3 ≡ r
+    whole = mod-mul-add k 3 r low
+
+    number : (m : ℕ) → index_by (end_by m) (k * 3 + r) ≡ k
+    number zero = div-mul-add k 3 r low
+    number (suc zero) = div-mul-add k 3 r low
+    number (suc (suc m)) = div-mul-add k 3 r low
+
+ranked_function : (e : End) → end_place e < 3 → (o : Option ℕ) → option_map (at (end_by (end_place e))) o ≡ option_map count_place (option_map (function_index e) o)
+ranked_function e low None = refl
+ranked_function e low (Some k) = ap Some (sym (end_ranked k (end_place e) low)) ∙ sym (ranked (k * 3 + end_place e) 4 (omega arith))
 
 -- a slot has the place of its count
 slot_place : (functions : List Text) (slot : Slot) → place_of functions slot ≡ option_map count_place (index_of functions slot)
-unfolding place_of index_of part_place end_place part_by index_by
+unfolding place_of index_of part_place end_place part_by end_by index_by
 slot_place functions (views.Before n) = sym (ranked n 0 (omega arith))
 slot_place functions (views.AfterZero n) = sym (ranked n 1 (omega arith))
 slot_place functions (views.AfterNonzero n) = sym (ranked n 2 (omega arith))
 slot_place functions (views.Head n) = sym (ranked n 3 (omega arith))
-slot_place functions (views.Entry f) = ranked_function end.Entered part.Entered 4 (omega arith) (λ k. refl) (λ k. refl) (number_of functions f)
-slot_place functions (views.ReturnsZero f) = ranked_function end.Zero part.ReturnZero 5 (omega arith) (λ k. refl) (λ k. refl) (number_of functions f)
-slot_place functions (views.ReturnsNonzero f) = ranked_function end.Nonzero part.ReturnNonzero 6 (omega arith) (λ k. refl) (λ k. refl) (number_of functions f)
+slot_place functions (views.Entry f) = ranked_function end.Entered (omega arith) (number_of functions f)
+slot_place functions (views.ReturnsZero f) = ranked_function end.Zero (omega arith) (number_of functions f)
+slot_place functions (views.ReturnsNonzero f) = ranked_function end.Nonzero (omega arith) (number_of functions f)
 
 -- one more count is claimed
 more : (P : ℕ → ℕ → Type 0) (cs : List (Option ℕ)) (o : Option ℕ) → ((i a : ℕ) → get_or cs i None ≡ Some a → P i a) → IfSome o (P (length cs)) → (i a : ℕ) → get_or (cs ++ o ∷ []) i None ≡ Some a → P i a

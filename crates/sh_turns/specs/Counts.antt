@@ -1,5 +1,5 @@
--- The counts of positional parameters that a certificate claims, in the order of the tally: seven
--- for each number.
+-- The counts of positional parameters that a certificate claims, in the order of the tally: five for
+-- each number.
 -- POSIX.1-2024, XCU 2.5.1 (positional parameters).
 use Rattle.std.specs.Prelude.{◌≡◌, ℕ, zero, suc, ◌-◌, ◌/◌, ◌%◌, Bool, true, false, not, List, Option, Some, None, get_or, option_and_then}
 use Rattle.sh_tree.specs.standard.program.Syntax.{Text}
@@ -22,32 +22,36 @@ use Rattle.sh_drafts.specs.declared.subject.Subject.{Subject}
 use Rattle.sh_drafts.specs.Places.{at, claim_there, kept_at, place_of}
 use Rattle.sh_drafts.specs.Ready.{Keeps}
 
--- the part of a command or of a function by its rank
-unfoldable pub part_by : ℕ → Part
-part_by zero = Before
-part_by (suc zero) = Zero
-part_by (suc (suc zero)) = Nonzero
-part_by (suc (suc (suc zero))) = Head
-part_by (suc (suc (suc (suc zero)))) = Entered
-part_by (suc (suc (suc (suc (suc zero))))) = ReturnZero
-part_by (suc (suc (suc (suc (suc (suc n)))))) = ReturnNonzero
+-- the part of a function by its rank
+unfoldable pub end_by : ℕ → Part
+end_by zero = Entered
+end_by (suc zero) = ReturnZero
+end_by (suc (suc n)) = ReturnNonzero
 
--- commands have numbers from 1, and functions from 0
+-- the part of a command or of a function by its number and rank
+unfoldable pub part_by : ℕ → ℕ → Part
+part_by n zero = Before
+part_by n (suc zero) = Zero
+part_by n (suc (suc zero)) = Nonzero
+part_by n (suc (suc (suc zero))) = Head
+part_by n (suc (suc (suc (suc r)))) = end_by (n % 3)
+
+-- commands have numbers from 1, and a function has three numbers
 unfoldable pub index_by : Part → ℕ → ℕ
 index_by Before n = n - 1
 index_by Zero n = n - 1
 index_by Nonzero n = n - 1
 index_by Head n = n - 1
-index_by Entered n = n
-index_by ReturnZero n = n
-index_by ReturnNonzero n = n
+index_by Entered n = n / 3
+index_by ReturnZero n = n / 3
+index_by ReturnNonzero n = n / 3
 
 abbrev pub ranked_place : ℕ → ℕ → Place
-ranked_place number rank = at (part_by rank) (index_by (part_by rank) number)
+ranked_place number rank = at (part_by number rank) (index_by (part_by number rank) number)
 
 -- the place of a count
 abbrev pub count_place : ℕ → Place
-count_place i = ranked_place (i / 7) (i % 7)
+count_place i = ranked_place (i / 5) (i % 5)
 
 -- how many parameters are claimed, if any run comes there
 unfoldable pub args_of : value.Facts → Option ℕ

@@ -13,22 +13,35 @@ use sh_drafts::{Draft, Part, Place, Subject, fitting, note_place};
 use sh_tally::{Places, Tally};
 use std::alloc::{AllocError, Global};
 
-// How many counts each number has: four of the command, and three of the function.
-const PARTS: usize = 7;
+// How many counts each number has: four of the command, and one of a function.
+const PARTS: usize = 5;
 
-// The part of a command or of a function by its rank.
+// How many counts a function has.
+const ENDS: usize = 3;
+
+// The part of a function by its rank.
+#[tactic(auto, unfolding(crate::specs::Counts::end_by))]
+fn end_by(rank: usize) -> Part
+    ensures { result ≡ spec.end_by rank }
+{
+    match rank {
+        0 => Part::Entered,
+        1 => Part::ReturnZero,
+        _ => Part::ReturnNonzero,
+    }
+}
+
+// The part of a command or of a function by its number and rank.
 #[tactic(auto, unfolding(crate::specs::Counts::part_by))]
-fn part_by(rank: usize) -> Part
-    ensures { result ≡ spec.part_by rank }
+fn part_by(number: usize, rank: usize) -> Part
+    ensures { result ≡ spec.part_by number rank }
 {
     match rank {
         0 => Part::Before,
         1 => Part::Zero,
         2 => Part::Nonzero,
         3 => Part::Head,
-        4 => Part::Entered,
-        5 => Part::ReturnZero,
-        _ => Part::ReturnNonzero,
+        _ => end_by(number % ENDS),
     }
 }
 
@@ -42,9 +55,9 @@ fn index_by(part: Part, number: usize) -> usize
         Part::Zero => number.saturating_sub(1),
         Part::Nonzero => number.saturating_sub(1),
         Part::Head => number.saturating_sub(1),
-        Part::Entered => number,
-        Part::ReturnZero => number,
-        Part::ReturnNonzero => number,
+        Part::Entered => number / ENDS,
+        Part::ReturnZero => number / ENDS,
+        Part::ReturnNonzero => number / ENDS,
     }
 }
 
@@ -53,8 +66,9 @@ fn index_by(part: Part, number: usize) -> usize
 fn place_of_count(count: usize) -> Option<Place>
     ensures { IfSome result (λ place. place ≡ count_place count) }
 {
-    let part = part_by(count % PARTS);
-    let index = fitting(index_by(part, count / PARTS))?;
+    let number = count / PARTS;
+    let part = part_by(number, count % PARTS);
+    let index = fitting(index_by(part, number))?;
     Some(Place { part, index })
 }
 
@@ -82,7 +96,7 @@ fn counts_of(alloc: Global, certificate: &Certificate) -> Result<Vec<Option<u16>
     ensures { IfOk result (λ counts. AreClaimed certificate.now counts.items) }
 {
     let commands = certificate.entries.len().saturating_add(1);
-    let numbers = commands.max(certificate.functions.len());
+    let numbers = commands.max(certificate.functions.len().saturating_mul(ENDS));
     let mut counts = Vec::new(alloc);
     for count in 0..numbers.saturating_mul(PARTS) {
         counts.push(claimed_count(certificate, count))?;

@@ -7,8 +7,8 @@ use Rattle.sh_counts.proofs.falling.Falling.close_all.Given as goal
 
 abbrev pub invariant-loop-place : goal.invariant-loop-place
 invariant-loop-place l = record {
-  sound : (es : Equations) → All (Follows es) l.users.equations.items → AreLed es l.initial.bounded → IsSound es l.initial.self.counts.items → IsSound es l.self.counts.items;
+  sound : (es : Equations) → All (Follows es) l.users.equations.now → AreLed es l.initial.bounded → IsSound es l.initial.self.counts.items → IsSound es l.self.counts.items;
   fell : Fell l.initial.self.counts.items l.self.counts.items;
   head : l.bounded.head ≡ l.initial.bounded.head;
-  led : (es : Equations) → All (Follows es) l.users.equations.items → AreLed es l.initial.bounded → AreLed es l.bounded;
+  led : (es : Equations) → All (Follows es) l.users.equations.now → AreLed es l.initial.bounded → AreLed es l.bounded;
 }

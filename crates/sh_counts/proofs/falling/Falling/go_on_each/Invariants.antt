@@ -5,10 +5,10 @@ use Rattle.sh_counts.specs.Falls.{Fell, Follows, IsSound, Leads}
 use Rattle.sh_counts.specs.Heads.{AreLed}
 use Rattle.sh_counts.proofs.falling.Falling.go_on_each.Given as goal
 
-abbrev pub invariant-loop-equation : goal.invariant-loop-equation
-invariant-loop-equation l = record {
-  sound : (es : Equations) → All (Follows es) l.equations → Leads es l.from.way l.from.index l.initial.bounded.head → IsSound es l.initial.self.counts.items → IsSound es l.self.counts.items;
+abbrev pub invariant-loop-place : goal.invariant-loop-place
+invariant-loop-place l = record {
+  sound : (es : Equations) → All (Follows es) l.users.equations.now → Leads es l.from.way l.from.index l.initial.bounded.head → IsSound es l.initial.self.counts.items → IsSound es l.self.counts.items;
   fell : Fell l.initial.self.counts.items l.self.counts.items;
   head : l.bounded.head ≡ l.initial.bounded.head;
-  led : (es : Equations) → All (Follows es) l.equations → Leads es l.from.way l.from.index l.initial.bounded.head → AreLed es l.initial.bounded → AreLed es l.bounded;
+  led : (es : Equations) → All (Follows es) l.users.equations.now → Leads es l.from.way l.from.index l.initial.bounded.head → AreLed es l.initial.bounded → AreLed es l.bounded;
 }

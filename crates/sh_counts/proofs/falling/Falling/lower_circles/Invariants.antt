@@ -5,6 +5,6 @@ use Rattle.sh_counts.proofs.falling.Falling.lower_circles.Given as goal
 
 abbrev pub invariant-loop-index : goal.invariant-loop-index
 invariant-loop-index l = record {
-  sound : (es : Equations) → All (Follows es) l.users.equations.items → IsSound es l.initial.self.counts.items → IsSound es l.self.counts.items;
+  sound : (es : Equations) → All (Follows es) l.users.equations.now → IsSound es l.initial.self.counts.items → IsSound es l.self.counts.items;
   fell : Fell l.initial.self.counts.items l.self.counts.items;
 }

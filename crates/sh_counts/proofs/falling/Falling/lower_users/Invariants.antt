@@ -1,0 +1,10 @@
+use Rattle.std.specs.List.{All}
+use Rattle.sh_counts.specs.declared.equations.Equations.{Equations}
+use Rattle.sh_counts.specs.Falls.{Fell, Follows, IsSound}
+use Rattle.sh_counts.proofs.falling.Falling.lower_users.Given as goal
+
+abbrev pub invariant-loop-place : goal.invariant-loop-place
+invariant-loop-place l = record {
+  sound : (es : Equations) → All (Follows es) l.users.equations.now → IsSound es l.initial.self.counts.items → IsSound es l.self.counts.items;
+  fell : Fell l.initial.self.counts.items l.self.counts.items;
+}
