@@ -1,9 +1,10 @@
 //! A sweep of the search over the branches of `if` and the clauses of `case` (XCU 2.9.4).
-ghost use Rattle.std.specs.Prelude.{◌∷◌, ◌++◌, [], List, IfOk};
+ghost use Rattle.std.specs.Prelude.{◌≡◌, ◌∷◌, ◌++◌, [], List, false, IfOk};
 ghost use Rattle.sh_tree.specs.declared.tree.Branch as if_branch;
 ghost use Rattle.sh_tree.specs.declared.tree.Clause as case_clause;
 ghost use Rattle.sh_tree.specs.Lists.{branches_from, clauses_from, otherwise_from, parts_from};
 ghost use Rattle.sh_tree.specs.standard.program.Syntax as p;
+ghost use Rattle.sh_tree.specs.standard.program.Syntax.{Text};
 ghost use Rattle.sh_domain.specs.Entries.{clauses_entered, word_entered};
 ghost use Rattle.sh_domain.specs.Facts.{NotReached};
 ghost use Rattle.sh_domain.specs.Gains.{word_gains};
@@ -14,12 +15,12 @@ ghost use Rattle.sh_sweeps.specs.Sweeps.{AreBranches, AreClauses, IsIn};
 ghost use Rattle.sh_drafts.specs.Ready.{IsReady, IsSwept};
 
 use crate::sweep::{sweep_items, sweep_list};
-use crate::words::{does_list_wait, may_wait_in, pass_word, sweep_patterns};
+use crate::words::{pass_word, sweep_patterns};
 use sh_domain::{FlowRule, Knowledge};
 use sh_drafts::{Draft, Subject};
 use sh_rules::{Around, begun, meet};
+use sh_sweeps::waits::place_of_news;
 use sh_tree::{Branch, Clause, Script, Word};
-use sh_worklist::Waiting;
 use std::alloc::AllocError;
 
 /// Lowers the certificate at the branches of `if`, and at what follows `else`.
@@ -71,42 +72,21 @@ fn sweep_branches(
     ensures left { IfOk result (λ unit. AreBranches subject.now (walks.around subject.now.script.now around.now) (knowledge_facts subject.now.names.now known.new)
         (branches_from subject.now.script.now []) (otherwise_from subject.now.script.now otherwise.now)) }
 {
-    for branch in branches {
-        sweep_branch(subject, draft, levels, around, known, branch)?;
+    let mut place = 0;
+    while place < branches.len() {
+        let is_known = known.is_reached();
+        let next = place_of_news(&draft.waiting, is_known, branches, place);
+        if next == branches.len() {
+            return Ok(());
+        }
+        sweep_branch(subject, draft, levels, around, known, &branches[next])?;
+        place = next + 1;
     }
     Ok(())
 }
 
-// Whether a command waits in a branch.
-fn does_branch_wait(waiting: &Waiting, branch: &Branch) -> bool {
-    does_list_wait(waiting, &branch.condition) || does_list_wait(waiting, &branch.body)
-}
-
 #[cycle(sweep)]
 fn sweep_branch(
-    subject: &Subject<'_>,
-    draft: &mut Draft,
-    levels: u32,
-    around: &Around<'_>,
-    known: &mut Knowledge,
-    branch: &Branch,
-) -> Result<(), AllocError>
-    requires ready { IsReady subject.now draft.old.certificate draft.old.probe.count }
-    requires placed { (others : List if_branch.Branch) × (z : p.Otherwise) × AreBranches subject.now (walks.around subject.now.script.now around.now) (knowledge_facts subject.now.names.now known.old)
-        (branches_from subject.now.script.now (branch.now ∷ others)) z }
-    ensures swept { IfOk result (λ unit. IsSwept subject.now draft.old.certificate draft.new.certificate draft.new.probe.count) }
-    ensures passed { IfOk result (λ unit. (others : List if_branch.Branch) (z : p.Otherwise)
-        → AreBranches subject.now (walks.around subject.now.script.now around.now) (knowledge_facts subject.now.names.now known.old) (branches_from subject.now.script.now (branch.now ∷ others)) z
-        → AreBranches subject.now (walks.around subject.now.script.now around.now) (knowledge_facts subject.now.names.now known.new) (branches_from subject.now.script.now others) z) }
-{
-    if !known.is_reached() && !does_branch_wait(&draft.waiting, branch) {
-        return Ok(());
-    }
-    enter_branch(subject, draft, levels, around, known, branch)
-}
-
-#[cycle(sweep)]
-fn enter_branch(
     subject: &Subject<'_>,
     draft: &mut Draft,
     levels: u32,
@@ -164,6 +144,14 @@ pub fn sweep_case(
     sweep_clauses(subject, draft, levels, around, &behind, clauses)
 }
 
+// Whether anything is known after the word, or where the list of the clause before falls through.
+#[tactic(auto, using(sh_sweeps::proofs::KnownLemmas::unreached))]
+fn is_any_known(behind: &Knowledge, fallen: &Knowledge) -> bool
+    ensures { result ≡ false → (names : List Text) → knowledge_facts names fallen.now ≡ NotReached }
+{
+    behind.is_reached() || fallen.is_reached()
+}
+
 #[cycle(sweep)]
 fn sweep_clauses(
     subject: &Subject<'_>,
@@ -179,8 +167,16 @@ fn sweep_clauses(
     ensures swept { IfOk result (λ unit. IsSwept subject.now draft.old.certificate draft.new.certificate draft.new.probe.count) }
 {
     let mut fallen = Knowledge::NotReached;
-    for clause in clauses {
+    let mut place = 0;
+    while place < clauses.len() {
+        let is_known = is_any_known(behind, &fallen);
+        let next = place_of_news(&draft.waiting, is_known, clauses, place);
+        if next == clauses.len() {
+            return Ok(());
+        }
+        let clause = &clauses[next];
         sweep_clause(subject, draft, levels, around, behind, &mut fallen, clause)?;
+        place = next + 1;
     }
     Ok(())
 }
@@ -203,17 +199,8 @@ fn sweep_clause(
         → AreClauses subject.now (walks.around subject.now.script.now around.now) (knowledge_facts subject.now.names.now behind.now) (knowledge_facts subject.now.names.now fallen.old) (clauses_from subject.now.script.now (clause.now ∷ others))
         → AreClauses subject.now (walks.around subject.now.script.now around.now) (knowledge_facts subject.now.names.now behind.now) (knowledge_facts subject.now.names.now fallen.new) (clauses_from subject.now.script.now others)) }
 {
-    if !behind.is_reached() && !fallen.is_reached() && !does_clause_wait(&draft.waiting, clause) {
-        return Ok(());
-    }
     sweep_patterns(subject, draft, levels, behind, clause.patterns.as_slice())?;
     sweep_body(subject, draft, levels, around, behind, fallen, clause)
-}
-
-// Whether a command may wait in a clause: a hint.
-fn does_clause_wait(waiting: &Waiting, clause: &Clause) -> bool {
-    let patterns = clause.patterns.as_slice();
-    does_list_wait(waiting, &clause.body) || patterns.iter().any(|word| may_wait_in(waiting, word))
 }
 
 // Lowers the certificate at the list of a clause, and goes on after it.

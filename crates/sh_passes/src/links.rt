@@ -1,7 +1,8 @@
 //! A sweep of the search over the pipelines after `&&` and `||` (XCU 2.9.3).
-ghost use Rattle.std.specs.Prelude.{◌∷◌, List, IfOk};
+ghost use Rattle.std.specs.Prelude.{◌∷◌, ◌<◌, ◌≤◌, List, drop, length, IfOk};
 ghost use Rattle.sh_tree.specs.declared.tree.Link as list_link;
 ghost use Rattle.sh_tree.specs.declared.tree.Pipe as pipeline;
+ghost use Rattle.sh_domain.specs.Entries as entries;
 ghost use Rattle.sh_rules.specs.Behind as spec;
 ghost use Rattle.sh_rules.specs.Walks as walks;
 ghost use Rattle.sh_sweeps.specs.Sweeps.{AreLinks, known_behind};
@@ -12,8 +13,8 @@ use sh_domain::FlowRule;
 use sh_drafts::{Draft, Subject};
 use sh_rules::{Around, Behind};
 use sh_sweeps::nowhere::{link_if, nothing_behind};
+use sh_sweeps::waits::{Member, next_place};
 use sh_tree::{Link, Pipe};
-use sh_worklist::{do_links_wait, does_pipe_wait};
 use std::alloc::AllocError;
 
 /// Lowers the certificate at the pipelines after `&&` or `||`. Nothing is known before one to which
@@ -35,10 +36,67 @@ pub fn sweep_links(
     requires placed { AreLinks subject.now (walks.around subject.now.script.now around.now) (known_behind subject.now behind.old) links.now }
     ensures swept { IfOk result (λ unit. IsSwept subject.now draft.old.certificate draft.new.certificate draft.new.probe.count) }
 {
-    for link in links {
-        link_or_pass(subject, draft, levels, around, behind, link)?;
+    let mut place = 0;
+    while place < links.len() {
+        let next = next_link(subject, &*draft, &*behind, links, place);
+        if next == links.len() {
+            return Ok(());
+        }
+        sweep_link(subject, draft, levels, around, behind, &links[next])?;
+        place = next + 1;
     }
     Ok(())
+}
+
+// The place from a place on of the next pipeline to which something is new or in which a command may
+// wait, or their count.
+fn next_link(
+    subject: &Subject<'_>,
+    draft: &Draft,
+    behind: &Behind,
+    links: &[(Link, Pipe)],
+    place: usize,
+) -> usize
+    requires ready { IsReady subject.now draft.now.certificate draft.now.probe.count }
+    requires within { place < length links.now }
+    ensures from { place ≤ result }
+    ensures there { result ≤ length links.now }
+    ensures left { (y : entries.Around) → AreLinks subject.now y (known_behind subject.now behind.now) (drop place links.now)
+        → AreLinks subject.now y (known_behind subject.now behind.now) (drop result links.now) }
+{
+    let link = links[place].0;
+    if behind.at_link(link).is_reached() {
+        return place;
+    }
+    let waits = next_place(&draft.waiting, links, place).unwrap_or(links.len());
+    pass_links(subject, draft, behind, links, place, waits)
+}
+
+// The place from one to another of the next pipeline to which something is new, or that other.
+fn pass_links(
+    subject: &Subject<'_>,
+    draft: &Draft,
+    behind: &Behind,
+    links: &[(Link, Pipe)],
+    place: usize,
+    end: usize,
+) -> usize
+    requires ready { IsReady subject.now draft.now.certificate draft.now.probe.count }
+    requires from { place ≤ end }
+    requires there { end ≤ length links.now }
+    ensures from { place ≤ result }
+    ensures there { result ≤ end }
+    ensures left { (y : entries.Around) → AreLinks subject.now y (known_behind subject.now behind.now) (drop place links.now)
+        → AreLinks subject.now y (known_behind subject.now behind.now) (drop result links.now) }
+{
+    let mut next = place;
+    while next < end {
+        if behind.at_link(links[next].0).is_reached() {
+            return next;
+        }
+        next += 1;
+    }
+    next
 }
 
 /// Goes over the pipelines after `&&` and `||` again, until none of them waits. So the list that they
@@ -60,7 +118,7 @@ pub fn sweep_links_again(
     ensures swept { IfOk result (λ unit. IsSwept subject.now draft.old.certificate draft.new.certificate draft.new.probe.count) }
 {
     for _round in 0..u32::MAX {
-        if !do_links_wait(&draft.waiting, links) {
+        if next_place(&draft.waiting, links, 0).is_none() {
             return Ok(());
         }
         let mut behind = nothing_behind();
@@ -69,10 +127,9 @@ pub fn sweep_links_again(
     Ok(())
 }
 
-// Lowers the certificate at the pipeline after `&&` or `||`, if something is new to it or a command
-// of it waits, and goes on after it.
+// Lowers the certificate at the pipeline after `&&` or `||`, and goes on after it.
 #[cycle(sweep)]
-fn link_or_pass(
+fn sweep_link(
     subject: &Subject<'_>,
     draft: &mut Draft,
     levels: u32,
@@ -87,11 +144,7 @@ fn link_or_pass(
         → AreLinks subject.now (walks.around subject.now.script.now around.now) (known_behind subject.now behind.old) (link.now ∷ others)
         → AreLinks subject.now (walks.around subject.now.script.now around.now) (known_behind subject.now behind.new) others) }
 {
-    let waits = does_pipe_wait(&draft.waiting, &link.1);
-    if !behind.at_link(link.0).is_reached() && !waits {
-        link_if(subject, &draft.certificate, behind, link, false);
-        return Ok(());
-    }
+    let waits = link.waits(&draft.waiting);
     let before = draft.lowered;
     enter_link(subject, draft, levels, around, &*behind, link)?;
     let is_new = waits || draft.lowered != before;

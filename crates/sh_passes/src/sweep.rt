@@ -28,9 +28,10 @@ use sh_drafts::{Draft, Subject, look};
 use sh_rules::{Around, Course, alone, begun, in_function, meet};
 use sh_sweeps::known::{entry_of, head_of, pass_all, pass_on, process_of, started_in, turn_of};
 use sh_sweeps::nowhere::{inside_if, leave_all, leave_item, pipe_if};
+use sh_sweeps::waits::{Member, next_place, place_of_news};
 use sh_sweeps::{News, carry_over, lower_before};
 use sh_tree::{AndOr, Command, Item, Kind, LoopKind, Pipe, Script, Span};
-use sh_worklist::{Inside, Look, do_links_wait, does_item_wait, does_pipe_wait, next_place};
+use sh_worklist::{Inside, Look};
 use std::alloc::AllocError;
 
 /// How many levels are gone into: of commands, of parts of words, and of expressions in arithmetic.
@@ -103,7 +104,7 @@ fn pass_idle(
     if news == News::Anything {
         return carry_over(subject, draft, course, items, place);
     }
-    let waits = next_place(&draft.waiting, items, place);
+    let waits = next_place(&draft.waiting, items, place).unwrap_or(items.len() - 1);
     if news == News::Nothing {
         leave_all(course, &items[place..waits]);
         return waits;
@@ -130,10 +131,7 @@ fn sweep_or_pass(
     ensures swept { IfOk result (λ news. IsSwept subject.now draft.old.certificate draft.new.certificate draft.new.probe.count) }
     ensures passed { IfOk result (λ news. IsPassed subject.now course.old course.new item.now) }
 {
-    // Each link is a look too, so that rounds which pass by long lists are noticed.
-    let links = item.list.rest.as_slice().len() as u64;
-    draft.looks = draft.looks.saturating_add(links);
-    let waits = does_item_wait(&draft.waiting, item);
+    let waits = item.waits(&draft.waiting);
     if news.passes(item) && !waits {
         pass_by(subject, &*draft, course, news, item);
         return Ok(news.after(item));
@@ -230,13 +228,13 @@ fn sweep_and_or(
     requires placed { IsAndOr subject.now by (walks.around subject.now.script.now around.now) (knowledge_facts subject.now.names.now known.now) list.now }
     ensures swept { IfOk result (λ unit. IsSwept subject.now draft.old.certificate draft.new.certificate draft.new.probe.count) }
 {
-    let waits = does_pipe_wait(&draft.waiting, &list.first);
+    let waits = list.first.waits(&draft.waiting);
     let before = draft.lowered;
     sweep_pipe(subject, draft, levels, by, around, known, &list.first)?;
     let links = list.rest.as_slice();
     let is_joined = known.is_reached() && list.first.parts.as_slice().len() != 1;
     let is_new = waits || draft.lowered != before || is_joined;
-    if links.is_empty() || (!is_new && !do_links_wait(&draft.waiting, links)) {
+    if links.is_empty() || (!is_new && next_place(&draft.waiting, links, 0).is_none()) {
         return Ok(());
     }
     let mut behind = pipe_if(subject, &draft.certificate, known, &list.first, is_new);
@@ -303,8 +301,15 @@ fn sweep_parts(
     requires placed { AreParts subject.now by (walks.around subject.now.script.now around.now) (knowledge_facts subject.now.names.now known.now) parts.now }
     ensures swept { IfOk result (λ unit. IsSwept subject.now draft.old.certificate draft.new.certificate draft.new.probe.count) }
 {
-    for command in parts {
-        sweep_command(subject, draft, levels, by, around, known, command)?;
+    let mut place = 0;
+    while place < parts.len() {
+        let is_known = known.is_reached();
+        let next = place_of_news(&draft.waiting, is_known, parts, place);
+        if next == parts.len() {
+            return Ok(());
+        }
+        sweep_command(subject, draft, levels, by, around, known, &parts[next])?;
+        place = next + 1;
     }
     Ok(())
 }

@@ -22,41 +22,12 @@ use sh_sweeps::known::{
     behind_action, behind_assigned, behind_operands, behind_word, operand_of, started_in,
 };
 use sh_sweeps::nowhere::before_if;
+use sh_sweeps::waits::{does_list_wait, may_wait_in, place_of_news};
 use sh_tree::{
     Action, Binary, Element, Expr, Items, ParameterOperator, Part, Redirect, Script,
     Subject as Parameter, Target, Word,
 };
-use sh_worklist::{Waiting, does_item_wait};
 use std::alloc::AllocError;
-
-/// Whether a command waits in a list.
-pub fn does_list_wait(waiting: &Waiting, list: &Script) -> bool {
-    let items = list.items.as_slice();
-    items.iter().any(|item| does_item_wait(waiting, item))
-}
-
-// Whether a command may wait in a part of a word.
-fn may_wait_in_part(waiting: &Waiting, part: &Part) -> bool {
-    match part {
-        Part::Command(_, _, list) => does_list_wait(waiting, list),
-        Part::Double(..) | Part::Param(_) | Part::Arith(..) => true,
-        _ => false,
-    }
-}
-
-/// Whether a command may wait in a word: a hint.
-pub fn may_wait_in(waiting: &Waiting, word: &Word) -> bool {
-    if !is_in_word(word) {
-        return false;
-    }
-    word.parts.as_slice().iter().any(|part| match part {
-        Part::Double(_, parts) => parts
-            .as_slice()
-            .iter()
-            .any(|inner| may_wait_in_part(waiting, inner)),
-        _ => may_wait_in_part(waiting, part),
-    })
-}
 
 /// Lowers the certificate at the commands in the words of a simple command. Each word is expanded
 /// after those before it, and values and redirections after all of them.
@@ -313,8 +284,15 @@ fn pass_parts(
     ensures swept { IfOk result (λ unit. IsSwept subject.now draft.old.certificate draft.new.certificate draft.new.probe.count) }
     ensures gained { IfOk result (λ unit. Gained subject.now (word_gains (parts_from subject.now.script.now parts.now)) (knowledge_facts subject.now.names.now known.old) (knowledge_facts subject.now.names.now known.new)) }
 {
-    for part in parts {
-        pass_part(subject, draft, levels, known, part)?;
+    let mut place = 0;
+    while place < parts.len() {
+        let is_known = known.is_reached();
+        let next = place_of_news(&draft.waiting, is_known, parts, place);
+        if next == parts.len() {
+            return Ok(());
+        }
+        pass_part(subject, draft, levels, known, &parts[next])?;
+        place = next + 1;
     }
     Ok(())
 }

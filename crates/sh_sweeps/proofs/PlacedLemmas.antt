@@ -1,6 +1,6 @@
 -- Where a sweep is in a command, by where it is before it: a lemma for each kind of command (XCU
 -- 2.9).
-use Rattle.std.proofs.Common.{◌≡◌, ℕ, suc, ◌+◌, ◌-◌, ◌<◌, ◌≤◌, Bool, true, false, Option, Some, List, [], ◌∷◌, ◌++◌, append_assoc, append-nil, drop, get_or, length, nat_lt, refl, sym, ap, ◌∙◌, subst, take, arith}
+use Rattle.std.proofs.Common.{◌≡◌, ◌≢◌, ℕ, zero, suc, not, ◌+◌, ◌-◌, ◌<◌, ◌≤◌, Bool, true, false, Option, Some, List, [], ◌∷◌, ◌++◌, append_assoc, append-nil, drop, get_or, length, nat_lt, refl, sym, ap, ◌∙◌, subst, take, arith}
 use Rattle.std.proofs.lemmas.Bool.Decides.{nat_tests}
 use Rattle.std.proofs.lemmas.List.{drop-drop, take-append-drop}
 use Rattle.std.proofs.Math.Seq.{drop-cons}
@@ -25,7 +25,8 @@ use Rattle.sh_domain.specs.declared.rule.FlowRule.TheVariants.{F1, F2, F3, F6, F
 use Rattle.sh_domain.specs.Entries as e
 use Rattle.sh_domain.specs.Entries.{Around, Entered, behind_redirects}
 use Rattle.sh_domain.proofs.OrderLemmas.{within_nowhere}
-use Rattle.sh_domain.specs.Facts.{Facts, NotReached, meet}
+use Rattle.sh_domain.specs.Order.{IsWithin}
+use Rattle.sh_domain.specs.Facts.{Facts, NotReached, Nowhere, claims, meet}
 use Rattle.sh_domain.specs.Gains.{word_gains}
 use Rattle.sh_domain.specs.Knowledge.{AreNumbered, among, knowledge_facts}
 use Rattle.sh_domain.specs.declared.knowledge.Knowledge.{Knowledge}
@@ -43,6 +44,7 @@ use Rattle.sh_sweeps.specs.Asked.{gathering}
 use Rattle.sh_sweeps.specs.Sweeps.{AreBranches, AreClauses, AreItems, AreLinks, AreParts, ArePassed, IsAndOr, IsCommand, IsIn, IsInside, IsList, IsPart, IsPassed, IsPipe, Knows, KnowsBehind, known_behind, setting_by}
 use Rattle.sh_drafts.specs.Ready.{IsOver}
 use Rattle.sh_drafts.specs.Starts.{start_of}
+use Rattle.sh_sweeps.proofs.KnownLemmas.{unreached}
 use Rattle.sh_sweeps.proofs.SweepLemmas.{first_part, knows_follow, last_part, stands_of}
 
 module _ (s : Subject) where
@@ -452,6 +454,40 @@ pub piece_before : {A : Type 0} (xs : List A) (i j : ℕ) → i ≤ j → take (
 piece_before xs i j before =
     let sum : i + (j - i) ≡ j = omega (arith, before) in
     ap (λ ys. take (j - i) (drop i xs) ++ ys) (ap (λ k. drop k xs) (sym sum) ∙ sym (drop-drop (j - i) i xs)) ∙ take-append-drop (j - i) (drop i xs)
+
+-- what is left from a later place, if each member before it may be left out
+skipped : {A : Type 0} (P : List A → Type 0) → ((x : A) (xs : List A) → P (x ∷ xs) → P xs) → (n : ℕ) (xs : List A) → P xs → P (drop n xs)
+skipped P step zero xs here = here
+skipped P step (suc n) [] here = here
+skipped P step (suc n) (x ∷ xs) here = skipped P step n xs (step x xs here)
+
+-- so at the place at which a sweep goes on
+pub left_at : {A : Type 0} (P : List A → Type 0) (is_known : Bool) (xs : List A) (i j : ℕ) → i ≤ j → (is_known ≡ true → j ≡ i) → (is_known ≡ false → (x : A) (ys : List A) → P (x ∷ ys) → P ys)
+    → P (drop i xs) → P (drop j xs)
+left_at P true xs i j before same step here = subst (λ k. P (drop k xs)) (sym (same refl)) here
+left_at P false xs i j before same step here =
+    let sum : i + (j - i) ≡ j = omega (arith, before) in
+    subst P (drop-drop (j - i) i xs ∙ ap (λ k. drop k xs) sum) (skipped P (step refl) (j - i) (drop i xs) here)
+
+pub found_below : (i n : ℕ) → i ≤ n → i ≢ n → i < n
+found_below i n most other = omega (arith, most, other)
+
+module _ (s : Subject) (y : Around) where
+  pub parts_left : (by : FlowRule) (k : Facts) (is_known : Bool) (cs : List Command) (i j : ℕ) → i ≤ j → (is_known ≡ true → j ≡ i) → AreParts s by y k (drop i cs) → AreParts s by y k (drop j cs)
+  parts_left by k is_known cs i j before same = left_at (AreParts s by y k) is_known cs i j before same (λ none c rest. parts_next s by y k c rest)
+
+  pub branches_left : (known : Knowledge) (is_known : Bool) (bs : List Branch) (z : p.Otherwise) (i j : ℕ) → is_known ≡ not (claims (knowledge_facts s.names.now known) Nowhere) → i ≤ j → (is_known ≡ true → j ≡ i)
+      → AreBranches s y (knowledge_facts s.names.now known) (branches_from s.script.now (drop i bs)) z → AreBranches s y (knowledge_facts s.names.now known) (branches_from s.script.now (drop j bs)) z
+  branches_left known is_known bs z i j reached before same =
+      let k = knowledge_facts s.names.now known in
+      left_at (λ cs. AreBranches s y k (branches_from s.script.now cs) z) is_known bs i j before same
+      (λ none b rest. branches_next s y k k b rest z (λ q knows other keeps. subst (IsWithin _) (sym (unreached k is_known reached none)) (within_nowhere _)))
+
+  pub clauses_left : (k f : Facts) (is_known : Bool) (cs : List Clause) (i j : ℕ) → (is_known ≡ false → f ≡ NotReached) → i ≤ j → (is_known ≡ true → j ≡ i)
+      → AreClauses s y k f (clauses_from s.script.now (drop i cs)) → AreClauses s y k f (clauses_from s.script.now (drop j cs))
+  clauses_left k f is_known cs i j reached before same =
+      left_at (λ ds. AreClauses s y k f (clauses_from s.script.now ds)) is_known cs i j before same
+      (λ none c rest here. subst (λ g. AreClauses s y k g (clauses_from s.script.now rest)) (sym (reached none)) (clauses_idle s y k f c rest here))
 
 module _ (s : Subject) where
   -- the list from a place on, after the items before the next one

@@ -1,6 +1,6 @@
 -- Where a sweep is in words, by where it is before them: a lemma for each kind of element, part and
 -- expression (XCU 2.6, 2.9.1).
-use Rattle.std.proofs.Common.{◌≡◌, ℕ, Bool, true, Result, Ok, Err, IfOk, List, [], ◌∷◌, ◌++◌, refl, sym, ap, ◌∙◌, subst}
+use Rattle.std.proofs.Common.{◌≡◌, ◌≤◌, ℕ, Bool, true, not, drop, Result, Ok, Err, IfOk, List, [], ◌∷◌, ◌++◌, refl, sym, ap, ◌∙◌, subst}
 use Rattle.sh_tree.specs.declared.tree.Action.{Action}
 use Rattle.sh_tree.specs.declared.tree.Action.TheVariants as action
 use Rattle.sh_tree.specs.declared.tree.Binary.{Binary}
@@ -19,7 +19,7 @@ use Rattle.sh_domain.specs.declared.certificate.Certificate as kept
 use Rattle.sh_domain.specs.declared.rule.FlowRule.TheVariants.{F11}
 use Rattle.sh_domain.specs.Entries as e
 use Rattle.sh_domain.specs.Entries.{Around, behind_redirects}
-use Rattle.sh_domain.specs.Facts.{Facts, NotReached}
+use Rattle.sh_domain.specs.Facts.{Facts, NotReached, Nowhere, claims}
 use Rattle.sh_domain.specs.Gains.{Gains, and_gains, assigned_in, expanded_gains, named, no_gains, operands_gains, operator_gains, part_gains, redirect_gains, sure, word_gains}
 use Rattle.sh_domain.specs.declared.knowledge.Knowledge.{Knowledge}
 use Rattle.sh_domain.specs.Knowledge.{AreNumbered, knowledge_facts}
@@ -27,6 +27,7 @@ use Rattle.sh_domain.specs.Table.{behind_words}
 use Rattle.sh_domain.specs.Views as views
 use Rattle.sh_domain.specs.Views.{Before, Seen, at, gaining}
 use Rattle.sh_domain.proofs.OrderLemmas.{within_nowhere}
+use Rattle.sh_domain.specs.Order.{IsWithin}
 use Rattle.sh_gains.specs.Knowing.{inner_gains, action_gains}
 use Rattle.sh_rules.specs.Settings.{gained}
 use Rattle.sh_rules.specs.Walks.{facts_in}
@@ -35,6 +36,8 @@ use Rattle.sh_rules.proofs.LedLemmas.{Follows}
 use Rattle.sh_drafts.specs.declared.subject.Subject.{Subject}
 use Rattle.sh_sweeps.specs.Sweeps.{AreClauses, AreElements, Gained, IsIn, IsInside, IsKind, IsList, IsPart, IsWord, Knows, setting_by}
 use Rattle.sh_drafts.specs.Ready.{IsOver}
+use Rattle.sh_sweeps.proofs.KnownLemmas.{unreached}
+use Rattle.sh_sweeps.proofs.PlacedLemmas.{left_at}
 use Rattle.sh_sweeps.proofs.SweepLemmas.{first_part, knows_follow, last_part}
 
 -- after a call whose result is returned
@@ -379,6 +382,17 @@ module _ (s : Subject) where
         → Along q k' all (word_gains (parts_from s.script.now xs))
     unfolding part_gains parts_from
     along_parts q k k' all x xs behind here = along_next q k k' all (part_gains (trees.part_of s.script.now x)) (word_gains (parts_from s.script.now xs)) behind here
+
+    -- what is left of a word from the place at which a sweep goes on
+    pub word_left : (known : Knowledge) (is_known : Bool) (all : Gains) (first : Facts) (xs : List Part) (i j : ℕ) → is_known ≡ not (claims (knowledge_facts s.names.now known) Nowhere) → i ≤ j → (is_known ≡ true → j ≡ i)
+        → IsWord s (knowledge_facts s.names.now known) (parts_from s.script.now (drop i xs)) × ((q : Seen) → Knows s q first → Along q (knowledge_facts s.names.now known) all (word_gains (parts_from s.script.now (drop i xs))))
+        → IsWord s (knowledge_facts s.names.now known) (parts_from s.script.now (drop j xs)) × ((q : Seen) → Knows s q first → Along q (knowledge_facts s.names.now known) all (word_gains (parts_from s.script.now (drop j xs))))
+    word_left known is_known all first xs i j reached before same =
+        let k = knowledge_facts s.names.now known in
+        left_at (λ ys. IsWord s k (parts_from s.script.now ys) × ((q : Seen) → Knows s q first → Along q k all (word_gains (parts_from s.script.now ys)))) is_known xs i j before same
+        (λ none x rest here.
+        let nothing : Gained s (part_gains (trees.part_of s.script.now x)) k k = λ q w other keeps. subst (IsWithin _) (sym (unreached k is_known reached none)) (within_nowhere _) in
+        (pieces_next k k x rest nothing here.0, λ q w. along_parts q k k all x rest nothing (here.1 q w)))
 
     pub along_no_parts : (q : Seen) (k : Facts) (all : Gains) → Along q k all (word_gains (parts_from s.script.now [])) → Knows s (gaining all q) k
     unfolding part_gains parts_from

@@ -15,6 +15,7 @@ mod plain;
 mod sides;
 mod slots;
 mod stated;
+pub mod waits;
 
 pub use before::lower_before;
 pub use claims::claims_of;

@@ -30,7 +30,6 @@ use sh_rules::elements::gain_assignments;
 use sh_rules::{Course, meet};
 use sh_table::{Kind as Meaning, kind_of};
 use sh_tree::{Command, Element, Item, Kind, Part, Span, Word};
-use sh_worklist::does_item_wait;
 
 // The command of an item that is a command alone.
 fn lone_command(item: &Item) -> Option<&Command>
@@ -164,7 +163,7 @@ fn carry_elements(
 }
 
 // Goes on after an item, if it is a command over which what is known is carried: a hint. It is not
-// carried over an item that waits or holds commands. Reports whether it goes on.
+// carried over a command that waits or holds others. Reports whether it goes on.
 fn carry_item(subject: &Subject<'_>, draft: &Draft, item: &Item, known: &mut Knowledge) -> bool
     requires { IsReady subject.now draft.now.certificate draft.now.probe.count }
     ensures carried { result ≡ true → IsItemCarried subject.now item.now known.old known.new }
@@ -176,7 +175,7 @@ fn carry_item(subject: &Subject<'_>, draft: &Draft, item: &Item, known: &mut Kno
     let Some(elements) = simple_elements(command) else {
         return false;
     };
-    if does_item_wait(&draft.waiting, item) || is_in_elements(elements) {
+    if draft.waiting.has(command.number) || is_in_elements(elements) {
         return false;
     }
     carry_elements(subject, &draft.certificate, elements, known)

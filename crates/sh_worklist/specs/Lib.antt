@@ -1,7 +1,6 @@
 pub mod Bits
 pub mod Calls
 pub mod Flags
-pub mod News
 pub mod Places
 pub mod Units
 pub mod Waiting

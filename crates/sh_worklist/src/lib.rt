@@ -4,7 +4,6 @@
 mod calls;
 mod commands;
 mod flags;
-mod news;
 mod order;
 mod units;
 mod waiting;
@@ -12,6 +11,5 @@ mod waiting;
 pub use calls::Calls;
 pub use commands::{Inside, Look};
 pub use flags::Flags;
-pub use news::{do_links_wait, does_item_wait, does_pipe_wait, next_place};
 pub use units::{Unit, Units};
 pub use waiting::Waiting;

@@ -25,7 +25,7 @@ use Rattle.sh_rules.specs.Walks.{facts_in}
 use Rattle.sh_rules.proofs.LedLemmas.{turns_led}
 use Rattle.sh_sweeps.specs.Sweeps.{AreItems, AreParts, IsAndOr, IsCommand, IsIn, IsInside, IsKind, IsList, IsPart, Knows, known_behind, setting_by}
 use Rattle.sh_drafts.specs.Ready.{IsReady}
-use Rattle.sh_sweeps.proofs.PlacedLemmas.{at_index, background_placed, begun_at, body_placed, command_placed, condition_placed, definition_placed, for_placed, foreground_placed, group_placed, inside_placed, known_after, long_placed, parts_next, short_placed, subshell_placed}
+use Rattle.sh_sweeps.proofs.PlacedLemmas.{at_index, background_placed, begun_at, body_placed, command_placed, condition_placed, definition_placed, for_placed, foreground_placed, found_below, group_placed, inside_placed, known_after, long_placed, parts_left, parts_next, short_placed, subshell_placed}
 use Rattle.sh_sweeps.proofs.SweepLemmas.{knows_follow, stands_of}
 use Rattle.sh_drafts.proofs.ReadyLemmas.{names_numbered, ready_again, swept_more}
 use Rattle.sh_sweeps.proofs.WordLemmas.{elements_placed, for_words_placed, if_ok, kind_as, kind_placed, redirections_placed}
@@ -89,35 +89,38 @@ links::sweep_links_again-sweep_links-requires = links.sweep_links_again-sweep_li
 pub links::sweep_links_again-loop-round-preserved : goal.links::sweep_links_again-loop-round-preserved
 links::sweep_links_again-loop-round-preserved = links.sweep_links_again-loop-round-preserved
 
-pub choices::enter_branch-sweep_items-requires : goal.choices::enter_branch-sweep_items-requires
-choices::enter_branch-sweep_items-requires = choices.enter_branch-sweep_items-requires
+pub choices::sweep_branch-sweep_items-requires : goal.choices::sweep_branch-sweep_items-requires
+choices::sweep_branch-sweep_items-requires = choices.sweep_branch-sweep_items-requires
 
-pub choices::enter_branch-sweep_list-requires : goal.choices::enter_branch-sweep_list-requires
-choices::enter_branch-sweep_list-requires = choices.enter_branch-sweep_list-requires
+pub choices::sweep_branch-sweep_list-requires : goal.choices::sweep_branch-sweep_list-requires
+choices::sweep_branch-sweep_list-requires = choices.sweep_branch-sweep_list-requires
 
-pub choices::enter_branch-returns-clause-swept : goal.choices::enter_branch-returns-clause-swept
-choices::enter_branch-returns-clause-swept = choices.enter_branch-returns-clause-swept
+pub choices::sweep_branch-returns-clause-swept : goal.choices::sweep_branch-returns-clause-swept
+choices::sweep_branch-returns-clause-swept = choices.sweep_branch-returns-clause-swept
 
-pub choices::sweep_branch-returns-then-not-does_branch_wait-clause-passed : goal.choices::sweep_branch-returns-then-not-does_branch_wait-clause-passed
-choices::sweep_branch-returns-then-not-does_branch_wait-clause-passed = choices.sweep_branch-returns-then-not-does_branch_wait-clause-passed
-
-pub choices::enter_branch-returns-clause-passed : goal.choices::enter_branch-returns-clause-passed
-choices::enter_branch-returns-clause-passed = choices.enter_branch-returns-clause-passed
+pub choices::sweep_branch-returns-clause-passed : goal.choices::sweep_branch-returns-clause-passed
+choices::sweep_branch-returns-clause-passed = choices.sweep_branch-returns-clause-passed
 
 pub choices::sweep_branches-sweep_branch-requires : goal.choices::sweep_branches-sweep_branch-requires
 choices::sweep_branches-sweep_branch-requires = choices.sweep_branches-sweep_branch-requires
 
-pub choices::sweep_branches-loop-branch-preserved : goal.choices::sweep_branches-loop-branch-preserved
-choices::sweep_branches-loop-branch-preserved = choices.sweep_branches-loop-branch-preserved
+pub choices::sweep_branches-loop-place-preserved : goal.choices::sweep_branches-loop-place-preserved
+choices::sweep_branches-loop-place-preserved = choices.sweep_branches-loop-place-preserved
 
-pub choices::sweep_clauses-loop-clause-init : goal.choices::sweep_clauses-loop-clause-init
-choices::sweep_clauses-loop-clause-init = choices.sweep_clauses-loop-clause-init
+pub choices::sweep_branches-returns-then-next-branches-clause-left : goal.choices::sweep_branches-returns-then-next-branches-clause-left
+choices::sweep_branches-returns-then-next-branches-clause-left = choices.sweep_branches-returns-then-next-branches-clause-left
+
+pub choices::sweep_branches-returns-clause-left : goal.choices::sweep_branches-returns-clause-left
+choices::sweep_branches-returns-clause-left = choices.sweep_branches-returns-clause-left
+
+pub choices::sweep_clauses-loop-place-init : goal.choices::sweep_clauses-loop-place-init
+choices::sweep_clauses-loop-place-init = choices.sweep_clauses-loop-place-init
 
 pub choices::sweep_clauses-sweep_clause-requires : goal.choices::sweep_clauses-sweep_clause-requires
 choices::sweep_clauses-sweep_clause-requires = choices.sweep_clauses-sweep_clause-requires
 
-pub choices::sweep_clauses-loop-clause-preserved : goal.choices::sweep_clauses-loop-clause-preserved
-choices::sweep_clauses-loop-clause-preserved = choices.sweep_clauses-loop-clause-preserved
+pub choices::sweep_clauses-loop-place-preserved : goal.choices::sweep_clauses-loop-place-preserved
+choices::sweep_clauses-loop-place-preserved = choices.sweep_clauses-loop-place-preserved
 
 pub choices::sweep_body-sweep_items-requires : goal.choices::sweep_body-sweep_items-requires
 choices::sweep_body-sweep_items-requires = choices.sweep_body-sweep_items-requires
@@ -233,21 +236,28 @@ sweep::sweep_loop-returns t c = record { swept = swept_more c.args.subject.now _
 pub sweep::sweep_parts-sweep_command-requires : goal.sweep::sweep_parts-sweep_command-requires
 sweep::sweep_parts-sweep_command-requires t c =
     let s = c.args.subject.now in
-    let r = c.requires.ready in
     let y = walks.around s.script.now c.args.around.now in
-    let ready : IsReady s c.loop-command.draft.certificate c.loop-command.draft.probe.count = ready_again s _ _ _ _ r c.loop-command.invariant.swept in
-    let here : AreParts s c.args.by y (knowledge_facts s.names.now c.args.known.now) (c.command-item.result ∷ drop (c.loop-command.command-index + 1) c.args.parts.now) = subst (AreParts s c.args.by y (knowledge_facts s.names.now c.args.known.now)) (at_index c.args.parts.now c.loop-command.command-index c.command-item.result c.loop-command-test.true c.command-item.is) c.loop-command.invariant.placed in
-    let placed : IsCommand s c.args.by y (knowledge_facts s.names.now c.args.known.now) c.command-item.result = command_placed s c.args.by y (knowledge_facts s.names.now c.args.known.now) c.command-item.result _ here in
+    let k = knowledge_facts s.names.now c.args.known.now in
+    let next = c.place_of_news-next.result in
+    let left = parts_left s y c.args.by k c.is_reached-is_known.result c.args.parts.now c.loop-place.place next c.place_of_news-next.ensures.from c.place_of_news-next.ensures.known c.loop-place.invariant.placed in
+    let here : AreParts s c.args.by y k (c.index-parts-next.result ∷ drop (next + 1) c.args.parts.now) =
+    subst (AreParts s c.args.by y k) (at_index c.args.parts.now next c.index-parts-next.result (found_below next (length c.args.parts.now) c.place_of_news-next.ensures.there c.if-next-parts.false) c.index-parts-next.is) left in
+    let ready : IsReady s c.loop-place.draft.certificate c.loop-place.draft.probe.count = ready_again s _ _ _ _ c.requires.ready c.loop-place.invariant.swept in
+    let placed : IsCommand s c.args.by y k c.index-parts-next.result = command_placed s c.args.by y k c.index-parts-next.result _ here in
     search std_rules
 
-pub sweep::sweep_parts-loop-command-preserved : goal.sweep::sweep_parts-loop-command-preserved
-sweep::sweep_parts-loop-command-preserved t c =
+pub sweep::sweep_parts-loop-place-preserved : goal.sweep::sweep_parts-loop-place-preserved
+sweep::sweep_parts-loop-place-preserved t c =
     let s = c.args.subject.now in
     let y = walks.around s.script.now c.args.around.now in
-    let here : AreParts s c.args.by y (knowledge_facts s.names.now c.args.known.now) (c.command-item.result ∷ drop (c.loop-command.command-index + 1) c.args.parts.now) = subst (AreParts s c.args.by y (knowledge_facts s.names.now c.args.known.now)) (at_index c.args.parts.now c.loop-command.command-index c.command-item.result c.loop-command-test.true c.command-item.is) c.loop-command.invariant.placed in
+    let k = knowledge_facts s.names.now c.args.known.now in
+    let next = c.place_of_news-next.result in
+    let left = parts_left s y c.args.by k c.is_reached-is_known.result c.args.parts.now c.loop-place.place next c.place_of_news-next.ensures.from c.place_of_news-next.ensures.known c.loop-place.invariant.placed in
+    let here : AreParts s c.args.by y k (c.index-parts-next.result ∷ drop (next + 1) c.args.parts.now) =
+    subst (AreParts s c.args.by y k) (at_index c.args.parts.now next c.index-parts-next.result (found_below next (length c.args.parts.now) c.place_of_news-next.ensures.there c.if-next-parts.false) c.index-parts-next.is) left in
     record {
-      swept = swept_more s _ _ _ _ _ c.loop-command.invariant.swept c.in_ok-sweep_command.ensures.swept;
-      placed = parts_next s c.args.by y (knowledge_facts s.names.now c.args.known.now) c.command-item.result _ here;
+      swept = swept_more s _ _ _ _ _ c.loop-place.invariant.swept c.in_ok-sweep_command.ensures.swept;
+      placed = parts_next s c.args.by y k c.index-parts-next.result _ here;
     }
 
 pub sweep::sweep_pipe-sweep_processes-requires : goal.sweep::sweep_pipe-sweep_processes-requires
@@ -444,14 +454,17 @@ words::sweep_patterns-loop-pattern-preserved = words.sweep_patterns-loop-pattern
 pub words::sweep_word-pass_parts-requires : goal.words::sweep_word-pass_parts-requires
 words::sweep_word-pass_parts-requires = words.sweep_word-pass_parts-requires
 
-pub words::pass_parts-loop-part-init : goal.words::pass_parts-loop-part-init
-words::pass_parts-loop-part-init = words.pass_parts-loop-part-init
+pub words::pass_parts-loop-place-init : goal.words::pass_parts-loop-place-init
+words::pass_parts-loop-place-init = words.pass_parts-loop-place-init
 
 pub words::pass_parts-pass_part-requires : goal.words::pass_parts-pass_part-requires
 words::pass_parts-pass_part-requires = words.pass_parts-pass_part-requires
 
-pub words::pass_parts-loop-part-preserved : goal.words::pass_parts-loop-part-preserved
-words::pass_parts-loop-part-preserved = words.pass_parts-loop-part-preserved
+pub words::pass_parts-loop-place-preserved : goal.words::pass_parts-loop-place-preserved
+words::pass_parts-loop-place-preserved = words.pass_parts-loop-place-preserved
+
+pub words::pass_parts-returns-then-next-parts-clause-gained : goal.words::pass_parts-returns-then-next-parts-clause-gained
+words::pass_parts-returns-then-next-parts-clause-gained = words.pass_parts-returns-then-next-parts-clause-gained
 
 pub words::pass_parts-returns-clause-gained : goal.words::pass_parts-returns-clause-gained
 words::pass_parts-returns-clause-gained = words.pass_parts-returns-clause-gained
@@ -621,9 +634,6 @@ words::pass_part-returns-then-levels-eq0-clause-gained = words.pass_part-returns
 pub words::pass_expression-returns-then-levels-eq0-clause-gained : goal.words::pass_expression-returns-then-levels-eq0-clause-gained
 words::pass_expression-returns-then-levels-eq0-clause-gained = words.pass_expression-returns-then-levels-eq0-clause-gained
 
-pub choices::sweep_clause-returns-then-not-does_clause_wait-clause-passed : goal.choices::sweep_clause-returns-then-not-does_clause_wait-clause-passed
-choices::sweep_clause-returns-then-not-does_clause_wait-clause-passed = choices.sweep_clause-returns-then-not-does_clause_wait-clause-passed
-
 pub choices::sweep_clause-returns-clause-swept : goal.choices::sweep_clause-returns-clause-swept
 choices::sweep_clause-returns-clause-swept = choices.sweep_clause-returns-clause-swept
 
@@ -773,14 +783,14 @@ bodies::sweep_body-returns = bodies.sweep_body-returns
 pub links::enter_link-sweep_pipe-requires : goal.links::enter_link-sweep_pipe-requires
 links::enter_link-sweep_pipe-requires = links.enter_link-sweep_pipe-requires
 
-pub links::sweep_links-link_or_pass-requires : goal.links::sweep_links-link_or_pass-requires
-links::sweep_links-link_or_pass-requires = links.sweep_links-link_or_pass-requires
+pub links::sweep_links-next_link-next-requires : goal.links::sweep_links-next_link-next-requires
+links::sweep_links-next_link-next-requires = links.sweep_links-next_link-next-requires
 
-pub links::sweep_links-loop-link-preserved : goal.links::sweep_links-loop-link-preserved
-links::sweep_links-loop-link-preserved = links.sweep_links-loop-link-preserved
+pub links::sweep_links-sweep_link-requires : goal.links::sweep_links-sweep_link-requires
+links::sweep_links-sweep_link-requires = links.sweep_links-sweep_link-requires
 
-pub links::link_or_pass-returns-then-not-waits-clause-passed : goal.links::link_or_pass-returns-then-not-waits-clause-passed
-links::link_or_pass-returns-then-not-waits-clause-passed = links.link_or_pass-returns-then-not-waits-clause-passed
+pub links::sweep_links-loop-place-preserved : goal.links::sweep_links-loop-place-preserved
+links::sweep_links-loop-place-preserved = links.sweep_links-loop-place-preserved
 
-pub links::link_or_pass-returns-clause-passed : goal.links::link_or_pass-returns-clause-passed
-links::link_or_pass-returns-clause-passed = links.link_or_pass-returns-clause-passed
+pub links::sweep_link-returns-clause-passed : goal.links::sweep_link-returns-clause-passed
+links::sweep_link-returns-clause-passed = links.sweep_link-returns-clause-passed

@@ -23,34 +23,46 @@ invariant-sweep::sweep_items-loop-place l = record {
 abbrev pub decreases-sweep::sweep_items-loop-place : goal.decreases-sweep::sweep_items-loop-place
 decreases-sweep::sweep_items-loop-place l = length l.items - l.place
 
-abbrev pub invariant-links::sweep_links-loop-link : goal.invariant-links::sweep_links-loop-link
-invariant-links::sweep_links-loop-link l = record {
+abbrev pub invariant-links::sweep_links-loop-place : goal.invariant-links::sweep_links-loop-place
+invariant-links::sweep_links-loop-place l = record {
   swept : IsSwept l.subject l.initial.draft.certificate l.draft.certificate l.draft.probe.count;
-  placed : AreLinks l.subject (walks.around l.subject.script.now l.around) (known_behind l.subject l.behind) (drop l.link-index l.links);
+  placed : AreLinks l.subject (walks.around l.subject.script.now l.around) (known_behind l.subject l.behind) (drop l.place l.links);
 }
+
+abbrev pub decreases-links::sweep_links-loop-place : goal.decreases-links::sweep_links-loop-place
+decreases-links::sweep_links-loop-place l = length l.links - l.place
 
 abbrev pub invariant-links::sweep_links_again-loop-round : goal.invariant-links::sweep_links_again-loop-round
 invariant-links::sweep_links_again-loop-round l = record { swept : IsSwept l.subject l.initial.draft.certificate l.draft.certificate l.draft.probe.count }
 
-abbrev pub invariant-sweep::sweep_parts-loop-command : goal.invariant-sweep::sweep_parts-loop-command
-invariant-sweep::sweep_parts-loop-command l = record {
+abbrev pub invariant-sweep::sweep_parts-loop-place : goal.invariant-sweep::sweep_parts-loop-place
+invariant-sweep::sweep_parts-loop-place l = record {
   swept : IsSwept l.subject l.initial.draft.certificate l.draft.certificate l.draft.probe.count;
-  placed : AreParts l.subject l.by (walks.around l.subject.script.now l.around) (knowledge_facts l.subject.names.now l.known) (drop l.command-index l.parts);
+  placed : AreParts l.subject l.by (walks.around l.subject.script.now l.around) (knowledge_facts l.subject.names.now l.known) (drop l.place l.parts);
 }
 
-abbrev pub invariant-choices::sweep_branches-loop-branch : goal.invariant-choices::sweep_branches-loop-branch
-invariant-choices::sweep_branches-loop-branch l = record {
+abbrev pub decreases-sweep::sweep_parts-loop-place : goal.decreases-sweep::sweep_parts-loop-place
+decreases-sweep::sweep_parts-loop-place l = length l.parts - l.place
+
+abbrev pub invariant-choices::sweep_branches-loop-place : goal.invariant-choices::sweep_branches-loop-place
+invariant-choices::sweep_branches-loop-place l = record {
   swept : IsSwept l.subject l.initial.draft.certificate l.draft.certificate l.draft.probe.count;
   placed : AreBranches l.subject (walks.around l.subject.script.now l.around) (knowledge_facts l.subject.names.now l.known)
-      (branches_from l.subject.script.now (drop l.branch-index l.branches)) (otherwise_from l.subject.script.now l.otherwise);
+      (branches_from l.subject.script.now (drop l.place l.branches)) (otherwise_from l.subject.script.now l.otherwise);
 }
 
-abbrev pub invariant-choices::sweep_clauses-loop-clause : goal.invariant-choices::sweep_clauses-loop-clause
-invariant-choices::sweep_clauses-loop-clause l = record {
+abbrev pub decreases-choices::sweep_branches-loop-place : goal.decreases-choices::sweep_branches-loop-place
+decreases-choices::sweep_branches-loop-place l = length l.branches - l.place
+
+abbrev pub invariant-choices::sweep_clauses-loop-place : goal.invariant-choices::sweep_clauses-loop-place
+invariant-choices::sweep_clauses-loop-place l = record {
   swept : IsSwept l.subject l.initial.draft.certificate l.draft.certificate l.draft.probe.count;
   placed : AreClauses l.subject (walks.around l.subject.script.now l.around) (knowledge_facts l.subject.names.now l.behind) (knowledge_facts l.subject.names.now l.fallen)
-      (clauses_from l.subject.script.now (drop l.clause-index l.clauses));
+      (clauses_from l.subject.script.now (drop l.place l.clauses));
 }
+
+abbrev pub decreases-choices::sweep_clauses-loop-place : goal.decreases-choices::sweep_clauses-loop-place
+decreases-choices::sweep_clauses-loop-place l = length l.clauses - l.place
 
 abbrev pub invariant-words::sweep_elements-loop-element : goal.invariant-words::sweep_elements-loop-element
 invariant-words::sweep_elements-loop-element l = record {
@@ -76,12 +88,15 @@ invariant-words::sweep_patterns-loop-pattern l = record {
   placed : IsIn l.subject (λ q. patterns_entered q (words_from l.subject.script.now (drop l.pattern-index l.patterns))) (knowledge_facts l.subject.names.now l.known);
 }
 
-abbrev pub invariant-words::pass_parts-loop-part : goal.invariant-words::pass_parts-loop-part
-invariant-words::pass_parts-loop-part l = record {
+abbrev pub invariant-words::pass_parts-loop-place : goal.invariant-words::pass_parts-loop-place
+invariant-words::pass_parts-loop-place l = record {
   swept : IsSwept l.subject l.initial.draft.certificate l.draft.certificate l.draft.probe.count;
-  placed : IsWord l.subject (knowledge_facts l.subject.names.now l.known) (parts_from l.subject.script.now (drop l.part-index l.parts));
-  along : (q : Seen) → Knows l.subject q (knowledge_facts l.subject.names.now l.initial.known) → Along l.subject q (knowledge_facts l.subject.names.now l.known) (word_gains (parts_from l.subject.script.now l.parts)) (word_gains (parts_from l.subject.script.now (drop l.part-index l.parts)));
+  placed : IsWord l.subject (knowledge_facts l.subject.names.now l.known) (parts_from l.subject.script.now (drop l.place l.parts));
+  along : (q : Seen) → Knows l.subject q (knowledge_facts l.subject.names.now l.initial.known) → Along l.subject q (knowledge_facts l.subject.names.now l.known) (word_gains (parts_from l.subject.script.now l.parts)) (word_gains (parts_from l.subject.script.now (drop l.place l.parts)));
 }
+
+abbrev pub decreases-words::pass_parts-loop-place : goal.decreases-words::pass_parts-loop-place
+decreases-words::pass_parts-loop-place l = length l.parts - l.place
 
 abbrev pub invariant-words::pass_operands-loop-link : goal.invariant-words::pass_operands-loop-link
 invariant-words::pass_operands-loop-link l = record {
@@ -186,11 +201,8 @@ decreases-words::sweep_substitution l = l.levels * 64 + 22
 abbrev pub decreases-choices::sweep_body : goal.decreases-choices::sweep_body
 decreases-choices::sweep_body l = l.levels * 64 + 22
 
-abbrev pub decreases-choices::enter_branch : goal.decreases-choices::enter_branch
-decreases-choices::enter_branch l = l.levels * 64 + 21
-
 abbrev pub decreases-choices::sweep_branch : goal.decreases-choices::sweep_branch
-decreases-choices::sweep_branch l = l.levels * 64 + 22
+decreases-choices::sweep_branch l = l.levels * 64 + 21
 
 abbrev pub decreases-sweep::sweep_list : goal.decreases-sweep::sweep_list
 decreases-sweep::sweep_list l = l.levels * 64 + 20
@@ -258,8 +270,8 @@ decreases-words::open_expression l = l.levels * 64 + 8
 abbrev pub decreases-links::sweep_links_again : goal.decreases-links::sweep_links_again
 decreases-links::sweep_links_again l = l.levels * 64 + 11
 
-abbrev pub decreases-links::link_or_pass : goal.decreases-links::link_or_pass
-decreases-links::link_or_pass l = l.levels * 64 + 9
+abbrev pub decreases-links::sweep_link : goal.decreases-links::sweep_link
+decreases-links::sweep_link l = l.levels * 64 + 9
 
 abbrev pub decreases-links::enter_link : goal.decreases-links::enter_link
 decreases-links::enter_link l = l.levels * 64 + 8

@@ -1,4 +1,5 @@
-use Rattle.std.proofs.Common.{rules as std_rules, ◌≡◌, ◌+◌, ◌∷◌, ◌++◌, [], List, drop, sym, subst}
+use Rattle.std.proofs.Common.{rules as std_rules, ◌≡◌, ◌≤◌, ◌+◌, ◌∷◌, ◌++◌, [], List, arith, drop, length, sym, subst}
+use Rattle.std.proofs.lemmas.List.{drop_all}
 use Rattle.sh_tree.specs.declared.tree.Branch.{Branch, out-Branch}
 use Rattle.sh_tree.specs.declared.tree.Clause.{Clause, out-Clause}
 use Rattle.sh_tree.specs.Lists.{branches_from, clauses_from, otherwise_from, parts_from, words_from}
@@ -12,15 +13,12 @@ use Rattle.sh_domain.specs.Facts.{NotReached, meet}
 use Rattle.sh_domain.specs.Gains.{word_gains}
 use Rattle.sh_domain.specs.Knowledge.{knowledge_facts}
 use Rattle.sh_domain.specs.Views.{gaining}
-use Rattle.sh_domain.proofs.OrderLemmas.{within_nowhere}
-use Rattle.sh_domain.specs.Order.{IsWithin}
-use Rattle.sh_sweeps.proofs.KnownLemmas.{unreached}
 use Rattle.sh_rules.specs.Behind.{both}
 use Rattle.sh_rules.specs.Walks as walks
 use Rattle.sh_rules.specs.Walks.{facts_in}
 use Rattle.sh_sweeps.specs.Sweeps.{AreBranches, AreClauses, AreItems, IsIn, IsList, IsWord, known_behind, setting_by}
 use Rattle.sh_drafts.specs.Ready.{IsReady}
-use Rattle.sh_sweeps.proofs.PlacedLemmas.{at_index, begun_at, branch_body, branch_condition, branches_next, branches_placed, case_placed, clause_list, clauses_idle, clauses_next, clauses_placed, else_placed, known_after}
+use Rattle.sh_sweeps.proofs.PlacedLemmas.{at_index, begun_at, branch_body, branch_condition, branches_left, branches_next, branches_placed, case_placed, clause_list, clauses_left, clauses_next, clauses_placed, else_placed, found_below, known_after}
 use Rattle.sh_drafts.proofs.ReadyLemmas.{names_numbered, ready_again, swept_more, swept_none}
 use Rattle.sh_sweeps.proofs.WordLemmas.{case_word, clause_patterns, if_ok, kind_as}
 use Rattle.sh_passes.proofs.+sweep.Goals as goal
@@ -51,9 +49,9 @@ sweep_conditional-sweep_case-requires t c =
     subst (λ cs. IsIn s (λ v. entries.word_entered v w ++ entries.clauses_entered y (gaining (word_gains w) v) [] (clauses_from s.script.now cs)) k) (sym c.as_slice-clauses.ensures) first in
     search std_rules
 
-pub enter_branch-sweep_items-requires : goal.choices::enter_branch-sweep_items-requires
+pub sweep_branch-sweep_items-requires : goal.choices::sweep_branch-sweep_items-requires
 unfolding facts_in
-enter_branch-sweep_items-requires t c =
+sweep_branch-sweep_items-requires t c =
     let s = c.args.subject.now in
     let r = c.requires.ready in
     let y = walks.around s.script.now c.args.around.now in
@@ -64,9 +62,9 @@ enter_branch-sweep_items-requires t c =
     begun_at s y k c.begun-course.result F6 (out-Branch c.args.branch.now).condition c.as_slice.result.now c.begun-course.ensures.by begun c.as_slice.ensures (branch_condition s y k c.args.branch.now w.0 w.1 w.2) in
     search std_rules
 
-pub enter_branch-sweep_list-requires : goal.choices::enter_branch-sweep_list-requires
+pub sweep_branch-sweep_list-requires : goal.choices::sweep_branch-sweep_list-requires
 unfolding facts_in
-enter_branch-sweep_list-requires t c =
+sweep_branch-sweep_list-requires t c =
     let s = c.args.subject.now in
     let r = c.requires.ready in
     let y = walks.around s.script.now c.args.around.now in
@@ -79,13 +77,13 @@ enter_branch-sweep_list-requires t c =
     branch_body s y k _ c.args.branch.now w.0 w.1 (λ q w other keeps. (after q w other keeps).zero) w.2 in
     search std_rules
 
-pub enter_branch-returns-clause-swept : goal.choices::enter_branch-returns-clause-swept
-enter_branch-returns-clause-swept t c =
+pub sweep_branch-returns-clause-swept : goal.choices::sweep_branch-returns-clause-swept
+sweep_branch-returns-clause-swept t c =
     swept_more c.args.subject.now _ _ _ _ _ c.in_ok-sweep_items.ensures.swept c.in_ok-sweep_list.ensures.swept
 
-pub enter_branch-returns-clause-passed : goal.choices::enter_branch-returns-clause-passed
+pub sweep_branch-returns-clause-passed : goal.choices::sweep_branch-returns-clause-passed
 unfolding facts_in
-enter_branch-returns-clause-passed t c =
+sweep_branch-returns-clause-passed t c =
     λ others z here.
     let s = c.args.subject.now in
     let y = walks.around s.script.now c.args.around.now in
@@ -94,35 +92,50 @@ enter_branch-returns-clause-passed t c =
     let after = known_after s k c.begun-course.result c.sweep_items.new.course (out-Branch c.args.branch.now).condition c.as_slice.result.now begun c.as_slice.ensures c.in_ok-sweep_items.ensures.behind in
     branches_next s y k _ c.args.branch.now others z (λ q w other keeps. (after q w other keeps).nonzero) here
 
-pub sweep_branch-returns-then-not-does_branch_wait-clause-passed : goal.choices::sweep_branch-returns-then-not-does_branch_wait-clause-passed
-sweep_branch-returns-then-not-does_branch_wait-clause-passed t c =
-    λ others z here.
-    let s = c.args.subject.now in
-    let y = walks.around s.script.now c.args.around.now in
-    let k = knowledge_facts s.names.now c.args.known.now in
-    let nowhere : k ≡ NotReached = unreached k _ (c.is_reached.ensures s.names.now) c.if-not-is_reached.true in
-    branches_next s y _ k c.args.branch.now others z (λ q w other keeps. subst (IsWithin _) (sym nowhere) (within_nowhere _)) here
-
 pub sweep_branches-sweep_branch-requires : goal.choices::sweep_branches-sweep_branch-requires
 sweep_branches-sweep_branch-requires t c =
     let s = c.args.subject.now in
-    let r = c.requires.ready in
     let y = walks.around s.script.now c.args.around.now in
-    let ready : IsReady s c.loop-branch.draft.certificate c.loop-branch.draft.probe.count = ready_again s _ _ _ _ r c.loop-branch.invariant.swept in
-    let here : AreBranches s y (knowledge_facts s.names.now c.loop-branch.known) (branches_from s.script.now (c.branch-item.result ∷ drop (c.loop-branch.branch-index + 1) c.args.branches.now)) (otherwise_from s.script.now c.args.otherwise.now) = subst (λ bs. AreBranches s y (knowledge_facts s.names.now c.loop-branch.known) (branches_from s.script.now bs) (otherwise_from s.script.now c.args.otherwise.now)) (at_index c.args.branches.now c.loop-branch.branch-index c.branch-item.result c.loop-branch-test.true c.branch-item.is) c.loop-branch.invariant.placed in
-    let placed : (others : List Branch) × (z : p.Otherwise) × AreBranches s y (knowledge_facts s.names.now c.loop-branch.known) (branches_from s.script.now (c.branch-item.result ∷ others)) z = (_, _, here) in
+    let k = knowledge_facts s.names.now c.loop-place.known in
+    let next = c.place_of_news-next.result in
+    let left = branches_left s y c.loop-place.known c.is_reached-is_known.result c.args.branches.now (otherwise_from s.script.now c.args.otherwise.now) c.loop-place.place next (c.is_reached-is_known.ensures s.names.now) c.place_of_news-next.ensures.from c.place_of_news-next.ensures.known c.loop-place.invariant.placed in
+    let here : AreBranches s y k (branches_from s.script.now (c.index-branches-next.result ∷ drop (next + 1) c.args.branches.now)) (otherwise_from s.script.now c.args.otherwise.now) =
+    subst (λ bs. AreBranches s y k (branches_from s.script.now bs) (otherwise_from s.script.now c.args.otherwise.now))
+    (at_index c.args.branches.now next c.index-branches-next.result (found_below next (length c.args.branches.now) c.place_of_news-next.ensures.there c.if-next-branches.false) c.index-branches-next.is) left in
+    let ready : IsReady s c.loop-place.draft.certificate c.loop-place.draft.probe.count = ready_again s _ _ _ _ c.requires.ready c.loop-place.invariant.swept in
+    let placed : (others : List Branch) × (z : p.Otherwise) × AreBranches s y k (branches_from s.script.now (c.index-branches-next.result ∷ others)) z = (_, _, here) in
     search std_rules
 
-pub sweep_branches-loop-branch-preserved : goal.choices::sweep_branches-loop-branch-preserved
-sweep_branches-loop-branch-preserved t c =
+pub sweep_branches-loop-place-preserved : goal.choices::sweep_branches-loop-place-preserved
+sweep_branches-loop-place-preserved t c =
     let s = c.args.subject.now in
     let y = walks.around s.script.now c.args.around.now in
-    let here : AreBranches s y (knowledge_facts s.names.now c.loop-branch.known) (branches_from s.script.now (c.branch-item.result ∷ drop (c.loop-branch.branch-index + 1) c.args.branches.now)) (otherwise_from s.script.now c.args.otherwise.now) = subst (λ bs. AreBranches s y (knowledge_facts s.names.now c.loop-branch.known) (branches_from s.script.now bs) (otherwise_from s.script.now c.args.otherwise.now)) (at_index c.args.branches.now c.loop-branch.branch-index c.branch-item.result c.loop-branch-test.true c.branch-item.is) c.loop-branch.invariant.placed in
-    record { swept = swept_more s _ _ _ _ _ c.loop-branch.invariant.swept c.in_ok-sweep_branch.ensures.swept; placed = c.in_ok-sweep_branch.ensures.passed _ _ here }
+    let k = knowledge_facts s.names.now c.loop-place.known in
+    let next = c.place_of_news-next.result in
+    let left = branches_left s y c.loop-place.known c.is_reached-is_known.result c.args.branches.now (otherwise_from s.script.now c.args.otherwise.now) c.loop-place.place next (c.is_reached-is_known.ensures s.names.now) c.place_of_news-next.ensures.from c.place_of_news-next.ensures.known c.loop-place.invariant.placed in
+    let here : AreBranches s y k (branches_from s.script.now (c.index-branches-next.result ∷ drop (next + 1) c.args.branches.now)) (otherwise_from s.script.now c.args.otherwise.now) =
+    subst (λ bs. AreBranches s y k (branches_from s.script.now bs) (otherwise_from s.script.now c.args.otherwise.now))
+    (at_index c.args.branches.now next c.index-branches-next.result (found_below next (length c.args.branches.now) c.place_of_news-next.ensures.there c.if-next-branches.false) c.index-branches-next.is) left in
+    record { swept = swept_more s _ _ _ _ _ c.loop-place.invariant.swept c.in_ok-sweep_branch.ensures.swept; placed = c.in_ok-sweep_branch.ensures.passed _ _ here }
 
-pub sweep_clauses-loop-clause-init : goal.choices::sweep_clauses-loop-clause-init
+pub sweep_branches-returns-then-next-branches-clause-left : goal.choices::sweep_branches-returns-then-next-branches-clause-left
+sweep_branches-returns-then-next-branches-clause-left t c =
+    let s = c.args.subject.now in
+    let y = walks.around s.script.now c.args.around.now in
+    let next = c.place_of_news-next.result in
+    let left = branches_left s y c.loop-place.known c.is_reached-is_known.result c.args.branches.now (otherwise_from s.script.now c.args.otherwise.now) c.loop-place.place next (c.is_reached-is_known.ensures s.names.now) c.place_of_news-next.ensures.from c.place_of_news-next.ensures.known c.loop-place.invariant.placed in
+    let over : length c.args.branches.now ≤ next = omega (arith, c.if-next-branches.true) in
+    subst (λ bs. AreBranches s y (knowledge_facts s.names.now c.loop-place.known) (branches_from s.script.now bs) (otherwise_from s.script.now c.args.otherwise.now)) (drop_all next c.args.branches.now over) left
+
+pub sweep_branches-returns-clause-left : goal.choices::sweep_branches-returns-clause-left
+sweep_branches-returns-clause-left t c =
+    let s = c.args.subject.now in
+    let y = walks.around s.script.now c.args.around.now in
+    subst (λ bs. AreBranches s y (knowledge_facts s.names.now c.loop-place.known) (branches_from s.script.now bs) (otherwise_from s.script.now c.args.otherwise.now)) (drop_all c.loop-place.place c.args.branches.now c.loop-place-test.false) c.loop-place.invariant.placed
+
+pub sweep_clauses-loop-place-init : goal.choices::sweep_clauses-loop-place-init
 unfolding knowledge_facts
-sweep_clauses-loop-clause-init t c =
+sweep_clauses-loop-place-init t c =
     let s = c.args.subject.now in
     let r = c.requires.ready in
     record { swept = swept_none s _ _ r; placed = c.requires.placed }
@@ -130,19 +143,30 @@ sweep_clauses-loop-clause-init t c =
 pub sweep_clauses-sweep_clause-requires : goal.choices::sweep_clauses-sweep_clause-requires
 sweep_clauses-sweep_clause-requires t c =
     let s = c.args.subject.now in
-    let r = c.requires.ready in
     let y = walks.around s.script.now c.args.around.now in
-    let ready : IsReady s c.loop-clause.draft.certificate c.loop-clause.draft.probe.count = ready_again s _ _ _ _ r c.loop-clause.invariant.swept in
-    let here : AreClauses s y (knowledge_facts s.names.now c.args.behind.now) (knowledge_facts s.names.now c.loop-clause.fallen) (clauses_from s.script.now (c.clause-item.result ∷ drop (c.loop-clause.clause-index + 1) c.args.clauses.now)) = subst (λ cs. AreClauses s y (knowledge_facts s.names.now c.args.behind.now) (knowledge_facts s.names.now c.loop-clause.fallen) (clauses_from s.script.now cs)) (at_index c.args.clauses.now c.loop-clause.clause-index c.clause-item.result c.loop-clause-test.true c.clause-item.is) c.loop-clause.invariant.placed in
-    let placed : (others : List Clause) × AreClauses s y (knowledge_facts s.names.now c.args.behind.now) (knowledge_facts s.names.now c.loop-clause.fallen) (clauses_from s.script.now (c.clause-item.result ∷ others)) = (_, here) in
+    let k = knowledge_facts s.names.now c.args.behind.now in
+    let f = knowledge_facts s.names.now c.loop-place.fallen in
+    let next = c.place_of_news-next.result in
+    let left = clauses_left s y k f c.is_any_known-is_known.result c.args.clauses.now c.loop-place.place next (λ none. c.is_any_known-is_known.ensures none s.names.now) c.place_of_news-next.ensures.from c.place_of_news-next.ensures.known c.loop-place.invariant.placed in
+    let here : AreClauses s y k f (clauses_from s.script.now (c.index-clauses-next.result ∷ drop (next + 1) c.args.clauses.now)) =
+    subst (λ cs. AreClauses s y k f (clauses_from s.script.now cs))
+    (at_index c.args.clauses.now next c.index-clauses-next.result (found_below next (length c.args.clauses.now) c.place_of_news-next.ensures.there c.if-next-clauses.false) c.index-clauses-next.is) left in
+    let ready : IsReady s c.loop-place.draft.certificate c.loop-place.draft.probe.count = ready_again s _ _ _ _ c.requires.ready c.loop-place.invariant.swept in
+    let placed : (others : List Clause) × AreClauses s y k f (clauses_from s.script.now (c.index-clauses-next.result ∷ others)) = (_, here) in
     search std_rules
 
-pub sweep_clauses-loop-clause-preserved : goal.choices::sweep_clauses-loop-clause-preserved
-sweep_clauses-loop-clause-preserved t c =
+pub sweep_clauses-loop-place-preserved : goal.choices::sweep_clauses-loop-place-preserved
+sweep_clauses-loop-place-preserved t c =
     let s = c.args.subject.now in
     let y = walks.around s.script.now c.args.around.now in
-    let here : AreClauses s y (knowledge_facts s.names.now c.args.behind.now) (knowledge_facts s.names.now c.loop-clause.fallen) (clauses_from s.script.now (c.clause-item.result ∷ drop (c.loop-clause.clause-index + 1) c.args.clauses.now)) = subst (λ cs. AreClauses s y (knowledge_facts s.names.now c.args.behind.now) (knowledge_facts s.names.now c.loop-clause.fallen) (clauses_from s.script.now cs)) (at_index c.args.clauses.now c.loop-clause.clause-index c.clause-item.result c.loop-clause-test.true c.clause-item.is) c.loop-clause.invariant.placed in
-    record { swept = swept_more s _ _ _ _ _ c.loop-clause.invariant.swept c.in_ok-sweep_clause.ensures.swept; placed = c.in_ok-sweep_clause.ensures.passed _ here }
+    let k = knowledge_facts s.names.now c.args.behind.now in
+    let f = knowledge_facts s.names.now c.loop-place.fallen in
+    let next = c.place_of_news-next.result in
+    let left = clauses_left s y k f c.is_any_known-is_known.result c.args.clauses.now c.loop-place.place next (λ none. c.is_any_known-is_known.ensures none s.names.now) c.place_of_news-next.ensures.from c.place_of_news-next.ensures.known c.loop-place.invariant.placed in
+    let here : AreClauses s y k f (clauses_from s.script.now (c.index-clauses-next.result ∷ drop (next + 1) c.args.clauses.now)) =
+    subst (λ cs. AreClauses s y k f (clauses_from s.script.now cs))
+    (at_index c.args.clauses.now next c.index-clauses-next.result (found_below next (length c.args.clauses.now) c.place_of_news-next.ensures.there c.if-next-clauses.false) c.index-clauses-next.is) left in
+    record { swept = swept_more s _ _ _ _ _ c.loop-place.invariant.swept c.in_ok-sweep_clause.ensures.swept; placed = c.in_ok-sweep_clause.ensures.passed _ here }
 
 pub sweep_body-sweep_items-requires : goal.choices::sweep_body-sweep_items-requires
 unfolding facts_in
@@ -217,16 +241,6 @@ sweep_clause-sweep_patterns-requires t c =
     let placed : IsIn s (λ q. entries.patterns_entered q (words_from s.script.now c.as_slice.result.now)) k =
     subst (λ ws. IsIn s (λ q. entries.patterns_entered q (words_from s.script.now ws)) k) (sym c.as_slice.ensures) first in
     search std_rules
-
-pub sweep_clause-returns-then-not-does_clause_wait-clause-passed : goal.choices::sweep_clause-returns-then-not-does_clause_wait-clause-passed
-sweep_clause-returns-then-not-does_clause_wait-clause-passed t c =
-    λ others here.
-    let s = c.args.subject.now in
-    let y = walks.around s.script.now c.args.around.now in
-    let k = knowledge_facts s.names.now c.args.behind.now in
-    let old = knowledge_facts s.names.now c.args.fallen.now in
-    let nowhere : old ≡ NotReached = unreached old _ (c.is_reached-then-not-is_reached.ensures s.names.now) c.if-not-is_reached-2.true in
-    subst (λ f. AreClauses s y k f (clauses_from s.script.now others)) (sym nowhere) (clauses_idle s y k old c.args.clause.now others here)
 
 pub sweep_clause-returns-clause-swept : goal.choices::sweep_clause-returns-clause-swept
 sweep_clause-returns-clause-swept t c = if_ok c.sweep_body.result _ _ (λ u h. swept_more c.args.subject.now _ _ _ _ _ c.in_ok-sweep_patterns.ensures.swept h) c.sweep_body.ensures.swept

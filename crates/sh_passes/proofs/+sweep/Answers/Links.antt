@@ -1,4 +1,4 @@
-use Rattle.std.proofs.Common.{rules as std_rules, ◌+◌, ◌∷◌, List, drop, subst, sym}
+use Rattle.std.proofs.Common.{rules as std_rules, ◌+◌, ◌∷◌, List, drop, length, subst, sym}
 use Rattle.sh_tree.specs.declared.tree.AndOr.{out-AndOr}
 use Rattle.sh_tree.specs.declared.tree.Link.{Link}
 use Rattle.sh_tree.specs.declared.tree.Pipe.{Pipe}
@@ -9,7 +9,7 @@ use Rattle.sh_rules.specs.Walks as walks
 use Rattle.sh_rules.specs.Walks.{facts_in}
 use Rattle.sh_sweeps.specs.Sweeps.{AreLinks, IsPipe, known_behind, setting_by}
 use Rattle.sh_drafts.specs.Ready.{IsReady}
-use Rattle.sh_sweeps.proofs.PlacedLemmas.{at_index, link_placed, links_next, links_placed, pipe_placed}
+use Rattle.sh_sweeps.proofs.PlacedLemmas.{at_index, found_below, link_placed, links_next, links_placed, pipe_placed}
 use Rattle.sh_drafts.proofs.ReadyLemmas.{names_numbered, ready_again, swept_more}
 use Rattle.sh_sweeps.proofs.WordLemmas.{if_ok}
 use Rattle.sh_passes.proofs.+sweep.Goals as goal
@@ -25,36 +25,39 @@ enter_link-sweep_pipe-requires t c =
     let placed : IsPipe s F3 y k c.args.link.now.1 = link_placed s y b k c.args.link.now c.requires.placed.0 (c.at_link.ensures (setting_by s c.args.draft.now.certificate)) _ (names_numbered s _ _ r) r.over c.requires.placed.1 in
     search std_rules
 
-pub sweep_links-link_or_pass-requires : goal.links::sweep_links-link_or_pass-requires
-sweep_links-link_or_pass-requires t c =
-    let s = c.args.subject.now in
-    let r = c.requires.ready in
-    let y = walks.around s.script.now c.args.around.now in
-    let ready : IsReady s c.loop-link.draft.certificate c.loop-link.draft.probe.count = ready_again s _ _ _ _ r c.loop-link.invariant.swept in
-    let here : AreLinks s y (known_behind s c.loop-link.behind) (c.link-item.result ∷ drop (c.loop-link.link-index + 1) c.args.links.now) = subst (AreLinks s y (known_behind s c.loop-link.behind)) (at_index c.args.links.now c.loop-link.link-index c.link-item.result c.loop-link-test.true c.link-item.is) c.loop-link.invariant.placed in
-    let placed : (others : List (Link × Pipe)) × AreLinks s y (known_behind s c.loop-link.behind) (c.link-item.result ∷ others) = (_, here) in
+pub sweep_links-next_link-next-requires : goal.links::sweep_links-next_link-next-requires
+sweep_links-next_link-next-requires t c =
+    let ready : IsReady c.args.subject.now c.loop-place.draft.certificate c.loop-place.draft.probe.count = ready_again c.args.subject.now _ _ _ _ c.requires.ready c.loop-place.invariant.swept in
     search std_rules
 
-pub sweep_links-loop-link-preserved : goal.links::sweep_links-loop-link-preserved
-sweep_links-loop-link-preserved t c =
+pub sweep_links-sweep_link-requires : goal.links::sweep_links-sweep_link-requires
+sweep_links-sweep_link-requires t c =
     let s = c.args.subject.now in
     let y = walks.around s.script.now c.args.around.now in
-    let here : AreLinks s y (known_behind s c.loop-link.behind) (c.link-item.result ∷ drop (c.loop-link.link-index + 1) c.args.links.now) = subst (AreLinks s y (known_behind s c.loop-link.behind)) (at_index c.args.links.now c.loop-link.link-index c.link-item.result c.loop-link-test.true c.link-item.is) c.loop-link.invariant.placed in
-    record { swept = swept_more s _ _ _ _ _ c.loop-link.invariant.swept c.in_ok-link_or_pass.ensures.swept; placed = c.in_ok-link_or_pass.ensures.passed _ here }
+    let b = known_behind s c.loop-place.behind in
+    let next = c.next_link-next.result in
+    let ready : IsReady s c.loop-place.draft.certificate c.loop-place.draft.probe.count = ready_again s _ _ _ _ c.requires.ready c.loop-place.invariant.swept in
+    let here : AreLinks s y b (c.index-links-next.result ∷ drop (next + 1) c.args.links.now) =
+    subst (AreLinks s y b) (at_index c.args.links.now next c.index-links-next.result (found_below next (length c.args.links.now) c.next_link-next.ensures.there c.if-next-links.false) c.index-links-next.is) (c.next_link-next.ensures.left y c.loop-place.invariant.placed) in
+    let placed : (others : List (Link × Pipe)) × AreLinks s y b (c.index-links-next.result ∷ others) = (_, here) in
+    search std_rules
 
-pub link_or_pass-returns-then-not-waits-clause-passed : goal.links::link_or_pass-returns-then-not-waits-clause-passed
-link_or_pass-returns-then-not-waits-clause-passed t c =
+pub sweep_links-loop-place-preserved : goal.links::sweep_links-loop-place-preserved
+sweep_links-loop-place-preserved t c =
+    let s = c.args.subject.now in
+    let y = walks.around s.script.now c.args.around.now in
+    let b = known_behind s c.loop-place.behind in
+    let next = c.next_link-next.result in
+    let here : AreLinks s y b (c.index-links-next.result ∷ drop (next + 1) c.args.links.now) =
+    subst (AreLinks s y b) (at_index c.args.links.now next c.index-links-next.result (found_below next (length c.args.links.now) c.next_link-next.ensures.there c.if-next-links.false) c.index-links-next.is) (c.next_link-next.ensures.left y c.loop-place.invariant.placed) in
+    record { swept = swept_more s _ _ _ _ _ c.loop-place.invariant.swept c.in_ok-sweep_link.ensures.swept; placed = c.in_ok-sweep_link.ensures.passed _ here }
+
+pub sweep_link-returns-clause-passed : goal.links::sweep_link-returns-clause-passed
+sweep_link-returns-clause-passed t c =
     λ others here.
     let s = c.args.subject.now in
     let y = walks.around s.script.now c.args.around.now in
     links_next s y (known_behind s c.args.behind.now) _ c.args.link.now others c.link_if.ensures here
-
-pub link_or_pass-returns-clause-passed : goal.links::link_or_pass-returns-clause-passed
-link_or_pass-returns-clause-passed t c =
-    λ others here.
-    let s = c.args.subject.now in
-    let y = walks.around s.script.now c.args.around.now in
-    links_next s y (known_behind s c.args.behind.now) _ c.args.link.now others c.link_if-2.ensures here
 
 pub sweep_links_again-sweep_links-requires : goal.links::sweep_links_again-sweep_links-requires
 sweep_links_again-sweep_links-requires t c =

@@ -1,4 +1,4 @@
-use Rattle.std.proofs.Common.{rules as std_rules, ap, ◌≡◌, ◌+◌, ◌∷◌, ◌∙◌, ℕ, List, drop, refl, sym, subst}
+use Rattle.std.proofs.Common.{rules as std_rules, ap, ◌≡◌, ◌≤◌, ◌+◌, ◌∷◌, ◌∙◌, ℕ, List, arith, drop, length, refl, sym, subst}
 use Rattle.std.proofs.lemmas.List.{drop_all}
 use Rattle.sh_tree.specs.declared.tree.Element.{Element}
 use Rattle.sh_tree.specs.Lists.{elements_from, for_words_from, operands_from, parts_from, redirects_from, words_from}
@@ -15,11 +15,11 @@ use Rattle.sh_rules.specs.Walks as walks
 use Rattle.sh_rules.specs.Walks.{facts_in}
 use Rattle.sh_sweeps.specs.Sweeps.{AreElements, Gained, IsIn, IsList, IsWord}
 use Rattle.sh_drafts.specs.Ready.{IsReady}
-use Rattle.sh_sweeps.proofs.PlacedLemmas.{at_index}
+use Rattle.sh_sweeps.proofs.PlacedLemmas.{at_index, found_below}
 use Rattle.sh_drafts.proofs.ReadyLemmas.{names_numbered, ready_again, swept_more, swept_none}
 use Rattle.sh_domain.specs.Facts.{NotReached}
 use Rattle.sh_sweeps.proofs.KnownLemmas.{unreached}
-use Rattle.sh_sweeps.proofs.WordLemmas.{Along, along_first, along_no_operands, along_no_parts, along_operands, along_parts, arithmetic_gained, arithmetic_placed, assigned_gained, assigned_placed, both_gained, chain_first, chain_gained, chain_rest, choice_condition, choice_gained, choice_no, choice_yes, double_gained, double_placed, element_as, elements_first, expanded_gained, expanded_placed, expansion_gained, expansion_placed, expression_as, expression_gained, file_gained, file_placed, gained_nowhere, here_gained, here_placed, if_ok, link_expression, listed_placed, literal_gained, nothing_gained, operand_inside, operand_next, operand_placed, operands_next, parenthesis_gained, parenthesis_placed, part_as, part_gained, part_placed, pattern_placed, patterns_next, pieces_next, plain_gained, redirect_placed, redirection_next, redirection_placed, redirects_next, remove_placed, signed_gained, signed_placed, substitution_placed, use_gained, use_placed, value_next, value_placed, word_placed, words_next}
+use Rattle.sh_sweeps.proofs.WordLemmas.{Along, along_first, along_no_operands, along_no_parts, along_operands, along_parts, arithmetic_gained, arithmetic_placed, assigned_gained, assigned_placed, both_gained, chain_first, chain_gained, chain_rest, choice_condition, choice_gained, choice_no, choice_yes, double_gained, double_placed, element_as, elements_first, expanded_gained, expanded_placed, expansion_gained, expansion_placed, expression_as, expression_gained, file_gained, file_placed, gained_nowhere, here_gained, here_placed, if_ok, link_expression, listed_placed, literal_gained, nothing_gained, operand_inside, operand_next, operand_placed, operands_next, parenthesis_gained, parenthesis_placed, part_as, part_gained, part_placed, pattern_placed, patterns_next, pieces_next, plain_gained, redirect_placed, redirection_next, redirection_placed, redirects_next, remove_placed, signed_gained, signed_placed, substitution_placed, use_gained, use_placed, value_next, value_placed, word_placed, words_next, word_left}
 use Rattle.sh_passes.proofs.+sweep.Goals as goal
 
 pub sweep_elements-loop-element-init : goal.words::sweep_elements-loop-element-init
@@ -176,8 +176,8 @@ sweep_word-pass_parts-requires t c =
     let placed : IsWord s k (parts_from s.script.now c.as_slice.result.now) = subst (λ ps. IsWord s k (parts_from s.script.now ps)) (sym c.as_slice.ensures) c.requires.placed in
     search std_rules
 
-pub pass_parts-loop-part-init : goal.words::pass_parts-loop-part-init
-pass_parts-loop-part-init t c =
+pub pass_parts-loop-place-init : goal.words::pass_parts-loop-place-init
+pass_parts-loop-place-init t c =
     let s = c.args.subject.now in
     let r = c.requires.ready in
     record { swept = swept_none s _ _ r; placed = c.requires.placed; along = λ q w. along_first s q _ _ w }
@@ -186,22 +186,42 @@ pub pass_parts-pass_part-requires : goal.words::pass_parts-pass_part-requires
 pass_parts-pass_part-requires t c =
     let s = c.args.subject.now in
     let r = c.requires.ready in
-    let ready : IsReady s c.loop-part.draft.certificate c.loop-part.draft.probe.count = ready_again s _ _ _ _ r c.loop-part.invariant.swept in
-    let here : IsWord s (knowledge_facts s.names.now c.loop-part.known) (parts_from s.script.now (c.part-item.result ∷ drop (c.loop-part.part-index + 1) c.args.parts.now)) = subst (λ xs. IsWord s (knowledge_facts s.names.now c.loop-part.known) (parts_from s.script.now xs)) (at_index c.args.parts.now c.loop-part.part-index c.part-item.result c.loop-part-test.true c.part-item.is) c.loop-part.invariant.placed in
-    let placed : IsIn s (λ q. entries.part_entered q (part_of s.script.now c.part-item.result)) (knowledge_facts s.names.now c.loop-part.known) = part_placed s (knowledge_facts s.names.now c.loop-part.known) c.part-item.result _ here in
+    let k = knowledge_facts s.names.now c.loop-place.known in
+    let next = c.place_of_news-next.result in
+    let left = word_left s _ (names_numbered s _ _ r) r.over c.loop-place.known c.is_reached-is_known.result (word_gains (parts_from s.script.now c.args.parts.now)) (knowledge_facts s.names.now c.args.known.now) c.args.parts.now c.loop-place.place next (c.is_reached-is_known.ensures s.names.now) c.place_of_news-next.ensures.from c.place_of_news-next.ensures.known (c.loop-place.invariant.placed, c.loop-place.invariant.along) in
+    let at = at_index c.args.parts.now next c.index-parts-next.result (found_below next (length c.args.parts.now) c.place_of_news-next.ensures.there c.if-next-parts.false) c.index-parts-next.is in
+    let here : IsWord s k (parts_from s.script.now (c.index-parts-next.result ∷ drop (next + 1) c.args.parts.now)) = subst (λ xs. IsWord s k (parts_from s.script.now xs)) at left.0 in
+    let ready : IsReady s c.loop-place.draft.certificate c.loop-place.draft.probe.count = ready_again s _ _ _ _ r c.loop-place.invariant.swept in
+    let placed : IsIn s (λ q. entries.part_entered q (part_of s.script.now c.index-parts-next.result)) k = part_placed s k c.index-parts-next.result _ here in
     search std_rules
 
-pub pass_parts-loop-part-preserved : goal.words::pass_parts-loop-part-preserved
-pass_parts-loop-part-preserved t c =
+pub pass_parts-loop-place-preserved : goal.words::pass_parts-loop-place-preserved
+pass_parts-loop-place-preserved t c =
     let s = c.args.subject.now in
     let r = c.requires.ready in
-    let here : IsWord s (knowledge_facts s.names.now c.loop-part.known) (parts_from s.script.now (c.part-item.result ∷ drop (c.loop-part.part-index + 1) c.args.parts.now)) = subst (λ xs. IsWord s (knowledge_facts s.names.now c.loop-part.known) (parts_from s.script.now xs)) (at_index c.args.parts.now c.loop-part.part-index c.part-item.result c.loop-part-test.true c.part-item.is) c.loop-part.invariant.placed in
+    let k = knowledge_facts s.names.now c.loop-place.known in
+    let next = c.place_of_news-next.result in
+    let left = word_left s _ (names_numbered s _ _ r) r.over c.loop-place.known c.is_reached-is_known.result (word_gains (parts_from s.script.now c.args.parts.now)) (knowledge_facts s.names.now c.args.known.now) c.args.parts.now c.loop-place.place next (c.is_reached-is_known.ensures s.names.now) c.place_of_news-next.ensures.from c.place_of_news-next.ensures.known (c.loop-place.invariant.placed, c.loop-place.invariant.along) in
+    let at = at_index c.args.parts.now next c.index-parts-next.result (found_below next (length c.args.parts.now) c.place_of_news-next.ensures.there c.if-next-parts.false) c.index-parts-next.is in
+    let here : IsWord s k (parts_from s.script.now (c.index-parts-next.result ∷ drop (next + 1) c.args.parts.now)) = subst (λ xs. IsWord s k (parts_from s.script.now xs)) at left.0 in
     record {
-      swept = swept_more s _ _ _ _ _ c.loop-part.invariant.swept c.in_ok-pass_part.ensures.swept;
-      placed = pieces_next s (knowledge_facts s.names.now c.loop-part.known) (knowledge_facts s.names.now c.pass_part.new.known) c.part-item.result _ c.in_ok-pass_part.ensures.gained here;
-      along = λ q w. along_parts s _ (names_numbered s _ _ r) r.over q (knowledge_facts s.names.now c.loop-part.known) _ _ c.part-item.result _ c.in_ok-pass_part.ensures.gained
-          (subst (λ xs. Along s q (knowledge_facts s.names.now c.loop-part.known) (word_gains (parts_from s.script.now c.args.parts.now)) (word_gains (parts_from s.script.now xs))) (at_index c.args.parts.now c.loop-part.part-index c.part-item.result c.loop-part-test.true c.part-item.is) (c.loop-part.invariant.along q w));
+      swept = swept_more s _ _ _ _ _ c.loop-place.invariant.swept c.in_ok-pass_part.ensures.swept;
+      placed = pieces_next s k (knowledge_facts s.names.now c.pass_part.new.known) c.index-parts-next.result _ c.in_ok-pass_part.ensures.gained here;
+      along = λ q w. along_parts s _ (names_numbered s _ _ r) r.over q k _ _ c.index-parts-next.result _ c.in_ok-pass_part.ensures.gained
+          (subst (λ xs. Along s q k (word_gains (parts_from s.script.now c.args.parts.now)) (word_gains (parts_from s.script.now xs))) at (left.1 q w));
     }
+
+pub pass_parts-returns-then-next-parts-clause-gained : goal.words::pass_parts-returns-then-next-parts-clause-gained
+pass_parts-returns-then-next-parts-clause-gained t c =
+    λ q w.
+    let s = c.args.subject.now in
+    let r = c.requires.ready in
+    let k = knowledge_facts s.names.now c.loop-place.known in
+    let next = c.place_of_news-next.result in
+    let left = word_left s _ (names_numbered s _ _ r) r.over c.loop-place.known c.is_reached-is_known.result (word_gains (parts_from s.script.now c.args.parts.now)) (knowledge_facts s.names.now c.args.known.now) c.args.parts.now c.loop-place.place next (c.is_reached-is_known.ensures s.names.now) c.place_of_news-next.ensures.from c.place_of_news-next.ensures.known (c.loop-place.invariant.placed, c.loop-place.invariant.along) in
+    let over : length c.args.parts.now ≤ next = omega (arith, c.if-next-parts.true) in
+    along_no_parts s _ (names_numbered s _ _ r) r.over q _ _
+    (subst (λ xs. Along s q k (word_gains (parts_from s.script.now c.args.parts.now)) (word_gains (parts_from s.script.now xs))) (drop_all next c.args.parts.now over) (left.1 q w))
 
 pub pass_parts-returns-clause-gained : goal.words::pass_parts-returns-clause-gained
 pass_parts-returns-clause-gained t c =
@@ -209,7 +229,7 @@ pass_parts-returns-clause-gained t c =
     let s = c.args.subject.now in
     let r = c.requires.ready in
     along_no_parts s _ (names_numbered s _ _ r) r.over q _ _
-    (subst (λ xs. Along s q (knowledge_facts s.names.now c.loop-part.known) (word_gains (parts_from s.script.now c.args.parts.now)) (word_gains (parts_from s.script.now xs))) (drop_all c.loop-part.part-index c.args.parts.now c.loop-part-test.false) (c.loop-part.invariant.along q w))
+    (subst (λ xs. Along s q (knowledge_facts s.names.now c.loop-place.known) (word_gains (parts_from s.script.now c.args.parts.now)) (word_gains (parts_from s.script.now xs))) (drop_all c.loop-place.place c.args.parts.now c.loop-place-test.false) (c.loop-place.invariant.along q w))
 
 pub open_part-pass_parts-requires : goal.words::open_part-pass_parts-requires
 open_part-pass_parts-requires t c =

@@ -1,0 +1,239 @@
+//! Where a sweep goes on in a list, a pipeline or a compound command: at the next member in which
+//! something waits. All of this is hints.
+ghost use Rattle.std.specs.Prelude.{◌≡◌, ◌≤◌, ◌<◌, ◌+◌, true, length, IfSome};
+
+use sh_drafts::inner::is_in_word;
+use sh_tree::{Branch, Clause, Command, Item, Link, ParameterOperator, Part, Pipe, Script, Word};
+use sh_worklist::Waiting;
+
+/// One of those that follow each other. The numbers of the commands rise from one to the next.
+pub trait Member {
+    /// The number of the first command in it, or None: then it may have none, or some that the
+    /// members before and after it have not.
+    fn number(&self) -> Option<u32>;
+
+    /// Whether a command of it may wait, or one inside of these.
+    fn waits(&self, waiting: &Waiting) -> bool;
+}
+
+impl Member for Command {
+    fn number(&self) -> Option<u32> {
+        Some(self.number)
+    }
+
+    fn waits(&self, waiting: &Waiting) -> bool {
+        waiting.has(self.number)
+    }
+}
+
+impl Member for Pipe {
+    fn number(&self) -> Option<u32> {
+        match self.parts.as_slice() {
+            [command, ..] => Some(command.number),
+            [] => None,
+        }
+    }
+
+    fn waits(&self, waiting: &Waiting) -> bool {
+        match self.parts.as_slice() {
+            [command] => waiting.has(command.number),
+            parts => next_place(waiting, parts, 0).is_some(),
+        }
+    }
+}
+
+impl Member for (Link, Pipe) {
+    fn number(&self) -> Option<u32> {
+        self.1.number()
+    }
+
+    fn waits(&self, waiting: &Waiting) -> bool {
+        self.1.waits(waiting)
+    }
+}
+
+impl Member for Item {
+    fn number(&self) -> Option<u32> {
+        self.list.first.number()
+    }
+
+    fn waits(&self, waiting: &Waiting) -> bool {
+        let links = self.list.rest.as_slice();
+        self.list.first.waits(waiting) || next_place(waiting, links, 0).is_some()
+    }
+}
+
+impl Member for Branch {
+    fn number(&self) -> Option<u32> {
+        match first_number(&self.condition) {
+            Some(number) => Some(number),
+            None => first_number(&self.body),
+        }
+    }
+
+    fn waits(&self, waiting: &Waiting) -> bool {
+        does_list_wait(waiting, &self.condition) || does_list_wait(waiting, &self.body)
+    }
+}
+
+impl Member for Clause {
+    fn number(&self) -> Option<u32> {
+        first_number(&self.body)
+    }
+
+    fn waits(&self, waiting: &Waiting) -> bool {
+        let patterns = self.patterns.as_slice();
+        does_list_wait(waiting, &self.body)
+            || patterns.iter().any(|word| may_wait_in(waiting, word))
+    }
+}
+
+impl Member for Part {
+    fn number(&self) -> Option<u32> {
+        match self {
+            Part::Command(_, _, list) => first_number(list),
+            _ => None,
+        }
+    }
+
+    fn waits(&self, waiting: &Waiting) -> bool {
+        match self {
+            Part::Double(_, parts) => {
+                let mut parts = parts.as_slice().iter();
+                parts.any(|part| may_wait_in_part(waiting, part))
+            }
+            _ => may_wait_in_part(waiting, self),
+        }
+    }
+}
+
+fn first_number(list: &Script) -> Option<u32> {
+    match list.items.as_slice() {
+        [item, ..] => item.number(),
+        [] => None,
+    }
+}
+
+/// Whether a command waits in a list.
+pub fn does_list_wait(waiting: &Waiting, list: &Script) -> bool {
+    match list.items.as_slice() {
+        [item] => item.waits(waiting),
+        items => next_place(waiting, items, 0).is_some(),
+    }
+}
+
+// Whether a command may wait in a part of a word that is not in double quotes.
+fn may_wait_in_part(waiting: &Waiting, part: &Part) -> bool {
+    match part {
+        Part::Command(_, _, list) => does_list_wait(waiting, list),
+        Part::Param(param) => !matches!(
+            param.operator,
+            ParameterOperator::Value | ParameterOperator::Length
+        ),
+        Part::Double(..) | Part::Arith(..) => true,
+        _ => false,
+    }
+}
+
+/// Whether a command may wait in a word.
+pub fn may_wait_in(waiting: &Waiting, word: &Word) -> bool {
+    let mut parts = word.parts.as_slice().iter();
+    parts.any(|part| part.waits(waiting)) && is_in_word(word)
+}
+
+// The place from a place on of the first member that has a number, or their count.
+fn place_of_number<M: Member>(members: &[M], from: usize) -> usize
+    requires { from ≤ length members.now }
+    ensures from { from ≤ result }
+    ensures there { result ≤ length members.now }
+{
+    let mut place = from;
+    while place < members.len() && members[place].number().is_none() {
+        place += 1;
+    }
+    place
+}
+
+// The number of the first member from a place on that has one.
+fn number_from<M: Member>(members: &[M], from: usize) -> u32
+    requires { from ≤ length members.now }
+{
+    match members.get(place_of_number(members, from)) {
+        Some(member) => member.number().unwrap_or(u32::MAX),
+        None => u32::MAX,
+    }
+}
+
+// The last place from a place on after which no member has a number up to this one.
+fn place_up_to<M: Member>(members: &[M], from: usize, number: u32) -> usize
+    requires { from < length members.now }
+    ensures from { from ≤ result }
+    ensures there { result < length members.now }
+{
+    let mut low = from;
+    let mut high = members.len();
+    while high - low > 1 {
+        let middle = low + (high - low) / 2;
+        if number_from(&members[..high], middle) <= number {
+            low = middle;
+        } else {
+            high = middle;
+        }
+    }
+    low
+}
+
+// The place after a member, which has a number, at which the next command that waits may be, or of
+// the last member.
+fn place_behind<M: Member>(waiting: &Waiting, members: &[M], from: usize) -> usize
+    requires { from + 1 < length members.now }
+    ensures from { from < result }
+    ensures there { result < length members.now }
+{
+    let last = members.len() - 1;
+    match waiting.next(number_from(members, from), number_from(members, last)) {
+        Some(number) => place_up_to(members, from, number).max(from + 1),
+        None => last,
+    }
+}
+
+/// The place from a place on of the first member in which a command may wait. One that has a number
+/// is searched for by that of the next command that waits, and the others are between these.
+pub fn next_place<M: Member>(waiting: &Waiting, members: &[M], from: usize) -> Option<usize>
+    ensures { IfSome result (λ place. (from ≤ place) × (place < length members.now)) }
+{
+    let mut place = from;
+    while place < members.len() {
+        let numbered = place_of_number(members, place);
+        let end = members.len().min(numbered.saturating_add(1));
+        let mut first = members[place..end].iter();
+        if let Some(count) = first.position(|member| member.waits(waiting)) {
+            return Some(place + count);
+        }
+        if end == members.len() {
+            return None;
+        }
+        place = place_behind(waiting, members, numbered);
+    }
+    None
+}
+
+/// The place from a place on at which a sweep goes on: there if something is known, or else at the
+/// first member in which a command may wait. Their count if there is none.
+pub fn place_of_news<M: Member>(
+    waiting: &Waiting,
+    is_known: bool,
+    members: &[M],
+    from: usize,
+) -> usize
+    requires { from < length members.now }
+    ensures from { from ≤ result }
+    ensures there { result ≤ length members.now }
+    ensures known { is_known ≡ true → result ≡ from }
+{
+    if is_known {
+        from
+    } else {
+        next_place(waiting, members, from).unwrap_or(members.len())
+    }
+}
