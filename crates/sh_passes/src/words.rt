@@ -22,6 +22,7 @@ use sh_sweeps::known::{
     behind_action, behind_assigned, behind_operands, behind_word, operand_of, started_in,
 };
 use sh_sweeps::nowhere::before_if;
+use sh_sweeps::texts::{goes_by_one, have_documents, hold_documents, place_of_text};
 use sh_sweeps::waits::{does_list_wait, may_wait_in, place_of_news};
 use sh_tree::{
     Action, Binary, Element, Expr, Items, ParameterOperator, Part, Redirect, Script,
@@ -49,8 +50,17 @@ pub fn sweep_elements(
 {
     let behind = behind_operands(subject, &draft.certificate, elements, known);
     let mut inside = *known;
-    for element in elements {
+    let has_documents = hold_documents(elements);
+    let mut place = 0;
+    while place < elements.len() {
+        let by_one = goes_by_one(has_documents, &inside, &behind);
+        let next = place_of_text(subject, &draft.waiting, by_one, elements, place);
+        if next == elements.len() {
+            return Ok(());
+        }
+        let element = &elements[next];
         sweep_element(subject, draft, levels, &mut inside, &behind, element)?;
+        place = next + 1;
     }
     Ok(())
 }
@@ -136,8 +146,17 @@ fn sweep_redirects(
     ensures swept { IfOk result (λ unit. IsSwept subject.now draft.old.certificate draft.new.certificate draft.new.probe.count) }
 {
     let mut inside = *known;
-    for redirect in redirects {
+    let has_documents = have_documents(redirects);
+    let mut place = 0;
+    while place < redirects.len() {
+        let by_one = goes_by_one(has_documents, &inside, &inside);
+        let next = place_of_text(subject, &draft.waiting, by_one, redirects, place);
+        if next == redirects.len() {
+            return Ok(());
+        }
+        let redirect = &redirects[next];
         pass_target(subject, draft, levels, &mut inside, &redirect.target)?;
+        place = next + 1;
     }
     Ok(())
 }
@@ -197,8 +216,15 @@ fn sweep_words(
     ensures swept { IfOk result (λ unit. IsSwept subject.now draft.old.certificate draft.new.certificate draft.new.probe.count) }
 {
     let mut inside = *known;
-    for word in words {
-        pass_word(subject, draft, levels, &mut inside, word)?;
+    let mut place = 0;
+    while place < words.len() {
+        let by_one = inside.is_reached();
+        let next = place_of_text(subject, &draft.waiting, by_one, words, place);
+        if next == words.len() {
+            return Ok(());
+        }
+        pass_word(subject, draft, levels, &mut inside, &words[next])?;
+        place = next + 1;
     }
     Ok(())
 }
@@ -220,8 +246,15 @@ pub fn sweep_patterns(
     requires placed { IsIn subject.now (λ q. patterns_entered q (words_from subject.now.script.now patterns.now)) (knowledge_facts subject.now.names.now known.now) }
     ensures swept { IfOk result (λ unit. IsSwept subject.now draft.old.certificate draft.new.certificate draft.new.probe.count) }
 {
-    for pattern in patterns {
-        sweep_word(subject, draft, levels, known, pattern)?;
+    let mut place = 0;
+    while place < patterns.len() {
+        let by_one = known.is_reached();
+        let next = place_of_text(subject, &draft.waiting, by_one, patterns, place);
+        if next == patterns.len() {
+            return Ok(());
+        }
+        sweep_word(subject, draft, levels, known, &patterns[next])?;
+        place = next + 1;
     }
     Ok(())
 }

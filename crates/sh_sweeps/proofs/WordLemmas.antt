@@ -1,18 +1,18 @@
 -- Where a sweep is in words, by where it is before them: a lemma for each kind of element, part and
 -- expression (XCU 2.6, 2.9.1).
-use Rattle.std.proofs.Common.{◌≡◌, ◌≤◌, ℕ, Bool, true, not, drop, Result, Ok, Err, IfOk, List, [], ◌∷◌, ◌++◌, refl, sym, ap, ◌∙◌, subst}
+use Rattle.std.proofs.Common.{◌≡◌, ◌≤◌, ℕ, Bool, true, false, not, drop, Result, Ok, Err, IfOk, List, [], ◌∷◌, ◌++◌, refl, sym, ap, ◌∙◌, subst}
 use Rattle.sh_tree.specs.declared.tree.Action.{Action}
 use Rattle.sh_tree.specs.declared.tree.Action.TheVariants as action
 use Rattle.sh_tree.specs.declared.tree.Binary.{Binary}
 use Rattle.sh_tree.specs.declared.tree.Clause.{Clause, out-Clause}
 use Rattle.sh_tree.specs.declared.tree.Command.{Command, out-Command}
-use Rattle.sh_tree.specs.declared.tree.Element.{Element}
+use Rattle.sh_tree.specs.declared.tree.Element.{Element, Assignment', Word', Redirection'}
 use Rattle.sh_tree.specs.declared.tree.Expr.{Expr}
 use Rattle.sh_tree.specs.declared.tree.Kind.{Kind}
 use Rattle.sh_tree.specs.declared.tree.Part.{Part}
 use Rattle.sh_tree.specs.declared.tree.Redirect.{Redirect}
 use Rattle.sh_tree.specs.declared.tree.Word.{Word}
-use Rattle.sh_tree.specs.Lists.{clauses_from, elements_from, operands_from, parts_from, redirects_from, words_from}
+use Rattle.sh_tree.specs.Lists.{clauses_from, element_from, elements_from, operands_from, parts_from, redirects_from, words_from}
 use Rattle.sh_tree.specs.standard.program.Syntax as p
 use Rattle.sh_tree.specs.standard.program.Trees as trees
 use Rattle.sh_domain.specs.declared.certificate.Certificate as kept
@@ -344,6 +344,29 @@ module _ (s : Subject) where
     knows = behind here.seen here.knows;
   }
 
+  -- What is left from the place at which a sweep goes on, if nothing is known before that
+
+  idle : (k : Facts) → k ≡ NotReached → (g : Gains) → Gained s g k k
+  idle k nowhere g q w other keeps = subst (IsWithin _) (sym nowhere) (within_nowhere _)
+
+  element_left : (k b : Facts) → k ≡ NotReached → (x : Element) (xs : List Element) → AreElements s k b (elements_from s.script.now (x ∷ xs)) → AreElements s k b (elements_from s.script.now xs)
+  unfolding elements_from element_from
+  element_left k b nowhere (Assignment' name z shape row) xs here = value_next k b _ _ _ here
+  element_left k b nowhere (Word' z shape row) xs here = operand_next k k b _ _ (idle k nowhere _) here
+  element_left k b nowhere (Redirection' at number target) xs here = redirection_next k b _ _ here
+
+  pub elements_left : (k b : Facts) (by_one : Bool) (xs : List Element) (i j : ℕ) → (by_one ≡ false → k ≡ NotReached) → i ≤ j → (by_one ≡ true → j ≡ i) → AreElements s k b (elements_from s.script.now (drop i xs)) → AreElements s k b (elements_from s.script.now (drop j xs))
+  elements_left k b by_one xs i j nowhere before same = left_at (λ ys. AreElements s k b (elements_from s.script.now ys)) by_one xs i j before same (λ none x rest. element_left k b (nowhere none) x rest)
+
+  pub redirects_left : (k : Facts) (by_one : Bool) (xs : List Redirect) (i j : ℕ) → (by_one ≡ false → k ≡ NotReached) → i ≤ j → (by_one ≡ true → j ≡ i) → IsIn s (λ q. e.redirects_entered q (redirects_from s.script.now (drop i xs))) k → IsIn s (λ q. e.redirects_entered q (redirects_from s.script.now (drop j xs))) k
+  redirects_left k by_one xs i j nowhere before same = left_at (λ ys. IsIn s (λ q. e.redirects_entered q (redirects_from s.script.now ys)) k) by_one xs i j before same (λ none x rest. redirects_next k k x rest (idle k (nowhere none) _))
+
+  pub words_left : (k : Facts) (by_one : Bool) (xs : List Word) (i j : ℕ) → (by_one ≡ false → k ≡ NotReached) → i ≤ j → (by_one ≡ true → j ≡ i) → IsIn s (λ q. e.words_entered q (words_from s.script.now (drop i xs))) k → IsIn s (λ q. e.words_entered q (words_from s.script.now (drop j xs))) k
+  words_left k by_one xs i j nowhere before same = left_at (λ ys. IsIn s (λ q. e.words_entered q (words_from s.script.now ys)) k) by_one xs i j before same (λ none x rest. words_next k k x rest (idle k (nowhere none) _))
+
+  pub patterns_left : (k : Facts) (by_one : Bool) (xs : List Word) (i j : ℕ) → i ≤ j → (by_one ≡ true → j ≡ i) → IsIn s (λ q. e.patterns_entered q (words_from s.script.now (drop i xs))) k → IsIn s (λ q. e.patterns_entered q (words_from s.script.now (drop j xs))) k
+  patterns_left k by_one xs i j before same = left_at (λ ys. IsIn s (λ q. e.patterns_entered q (words_from s.script.now ys)) k) by_one xs i j before same (λ none x rest. patterns_next k x rest)
+
   -- What is known after the pieces so far, and what the rest leaves after all of them
 
   pub record Along (q : Seen) (k : Facts) (all rest : Gains) : Type 0 where
@@ -391,7 +414,7 @@ module _ (s : Subject) where
         let k = knowledge_facts s.names.now known in
         left_at (λ ys. IsWord s k (parts_from s.script.now ys) × ((q : Seen) → Knows s q first → Along q k all (word_gains (parts_from s.script.now ys)))) is_known xs i j before same
         (λ none x rest here.
-        let nothing : Gained s (part_gains (trees.part_of s.script.now x)) k k = λ q w other keeps. subst (IsWithin _) (sym (unreached k is_known reached none)) (within_nowhere _) in
+        let nothing : Gained s (part_gains (trees.part_of s.script.now x)) k k = idle k (unreached k is_known reached none) _ in
         (pieces_next k k x rest nothing here.0, λ q w. along_parts q k k all x rest nothing (here.1 q w)))
 
     pub along_no_parts : (q : Seen) (k : Facts) (all : Gains) → Along q k all (word_gains (parts_from s.script.now [])) → Knows s (gaining all q) k

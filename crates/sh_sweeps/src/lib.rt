@@ -15,6 +15,7 @@ mod plain;
 mod sides;
 mod slots;
 mod stated;
+pub mod texts;
 pub mod waits;
 
 pub use before::lower_before;

@@ -1,10 +1,13 @@
 //! Where a sweep goes on in a list, a pipeline or a compound command: at the next member in which
 //! something waits. All of this is hints.
-ghost use Rattle.std.specs.Prelude.{◌≡◌, ◌≤◌, ◌<◌, ◌+◌, true, length, IfSome};
+ghost use Rattle.std.specs.Prelude.{◌≡◌, ◌≤◌, ◌<◌, true, length, IfSome};
 
 use sh_drafts::inner::is_in_word;
 use sh_tree::{Branch, Clause, Command, Item, Link, ParameterOperator, Part, Pipe, Script, Word};
 use sh_worklist::Waiting;
+
+// So many members are looked at one by one.
+const FEW: usize = 16;
 
 /// One of those that follow each other. The numbers of the commands rise from one to the next.
 pub trait Member {
@@ -164,7 +167,8 @@ fn number_from<M: Member>(members: &[M], from: usize) -> u32
     }
 }
 
-// The last place from a place on after which no member has a number up to this one.
+// The last place from a place on of a member that has, or before one that has, a number up to this
+// one.
 fn place_up_to<M: Member>(members: &[M], from: usize, number: u32) -> usize
     requires { from < length members.now }
     ensures from { from ≤ result }
@@ -183,29 +187,31 @@ fn place_up_to<M: Member>(members: &[M], from: usize, number: u32) -> usize
     low
 }
 
-// The place after a member, which has a number, at which the next command that waits may be, or of
-// the last member.
-fn place_behind<M: Member>(waiting: &Waiting, members: &[M], from: usize) -> usize
-    requires { from + 1 < length members.now }
-    ensures from { from < result }
+// The place from a second place on of the member in which the next command that waits may be, or of
+// the last member. None waits from the first place up to the second.
+fn place_behind<M: Member>(waiting: &Waiting, members: &[M], from: usize, second: usize) -> usize
+    requires from { from ≤ second }
+    requires there { second < length members.now }
+    ensures from { second ≤ result }
     ensures there { result < length members.now }
 {
     let last = members.len() - 1;
     match waiting.next(number_from(members, from), number_from(members, last)) {
-        Some(number) => place_up_to(members, from, number).max(from + 1),
+        Some(number) => place_up_to(members, from, number).max(second),
         None => last,
     }
 }
 
-/// The place from a place on of the first member in which a command may wait. One that has a number
-/// is searched for by that of the next command that waits, and the others are between these.
+/// The place from a place on of the first member in which a command may wait. A few are looked at
+/// one by one, since the bodies of functions that are never called wait too. The others are searched
+/// for by the number of the next command that waits.
 pub fn next_place<M: Member>(waiting: &Waiting, members: &[M], from: usize) -> Option<usize>
     ensures { IfSome result (λ place. (from ≤ place) × (place < length members.now)) }
 {
     let mut place = from;
     while place < members.len() {
         let numbered = place_of_number(members, place);
-        let end = members.len().min(numbered.saturating_add(1));
+        let end = members.len().min(numbered.saturating_add(FEW));
         let mut first = members[place..end].iter();
         if let Some(count) = first.position(|member| member.waits(waiting)) {
             return Some(place + count);
@@ -213,7 +219,7 @@ pub fn next_place<M: Member>(waiting: &Waiting, members: &[M], from: usize) -> O
         if end == members.len() {
             return None;
         }
-        place = place_behind(waiting, members, numbered);
+        place = place_behind(waiting, members, numbered, end);
     }
     None
 }

@@ -403,14 +403,14 @@ choices::sweep_case-sweep_clauses-requires = choices.sweep_case-sweep_clauses-re
 pub choices::sweep_clause-sweep_patterns-requires : goal.choices::sweep_clause-sweep_patterns-requires
 choices::sweep_clause-sweep_patterns-requires = choices.sweep_clause-sweep_patterns-requires
 
-pub words::sweep_elements-loop-element-init : goal.words::sweep_elements-loop-element-init
-words::sweep_elements-loop-element-init = words.sweep_elements-loop-element-init
+pub words::sweep_elements-loop-place-init : goal.words::sweep_elements-loop-place-init
+words::sweep_elements-loop-place-init = words.sweep_elements-loop-place-init
 
 pub words::sweep_elements-sweep_element-requires : goal.words::sweep_elements-sweep_element-requires
 words::sweep_elements-sweep_element-requires = words.sweep_elements-sweep_element-requires
 
-pub words::sweep_elements-loop-element-preserved : goal.words::sweep_elements-loop-element-preserved
-words::sweep_elements-loop-element-preserved = words.sweep_elements-loop-element-preserved
+pub words::sweep_elements-loop-place-preserved : goal.words::sweep_elements-loop-place-preserved
+words::sweep_elements-loop-place-preserved = words.sweep_elements-loop-place-preserved
 
 pub words::sweep_element-sweep_word-requires : goal.words::sweep_element-sweep_word-requires
 words::sweep_element-sweep_word-requires = words.sweep_element-sweep_word-requires
@@ -427,8 +427,8 @@ words::sweep_redirections-sweep_redirects-requires = words.sweep_redirections-sw
 pub words::sweep_redirects-pass_target-requires : goal.words::sweep_redirects-pass_target-requires
 words::sweep_redirects-pass_target-requires = words.sweep_redirects-pass_target-requires
 
-pub words::sweep_redirects-loop-redirect-preserved : goal.words::sweep_redirects-loop-redirect-preserved
-words::sweep_redirects-loop-redirect-preserved = words.sweep_redirects-loop-redirect-preserved
+pub words::sweep_redirects-loop-place-preserved : goal.words::sweep_redirects-loop-place-preserved
+words::sweep_redirects-loop-place-preserved = words.sweep_redirects-loop-place-preserved
 
 pub words::pass_target-pass_word-requires : goal.words::pass_target-pass_word-requires
 words::pass_target-pass_word-requires = words.pass_target-pass_word-requires
@@ -442,14 +442,14 @@ words::pass_word-returns-then-not-may_wait_in-clause-gained = words.pass_word-re
 pub words::sweep_words-pass_word-requires : goal.words::sweep_words-pass_word-requires
 words::sweep_words-pass_word-requires = words.sweep_words-pass_word-requires
 
-pub words::sweep_words-loop-word-preserved : goal.words::sweep_words-loop-word-preserved
-words::sweep_words-loop-word-preserved = words.sweep_words-loop-word-preserved
+pub words::sweep_words-loop-place-preserved : goal.words::sweep_words-loop-place-preserved
+words::sweep_words-loop-place-preserved = words.sweep_words-loop-place-preserved
 
 pub words::sweep_patterns-sweep_word-requires : goal.words::sweep_patterns-sweep_word-requires
 words::sweep_patterns-sweep_word-requires = words.sweep_patterns-sweep_word-requires
 
-pub words::sweep_patterns-loop-pattern-preserved : goal.words::sweep_patterns-loop-pattern-preserved
-words::sweep_patterns-loop-pattern-preserved = words.sweep_patterns-loop-pattern-preserved
+pub words::sweep_patterns-loop-place-preserved : goal.words::sweep_patterns-loop-place-preserved
+words::sweep_patterns-loop-place-preserved = words.sweep_patterns-loop-place-preserved
 
 pub words::sweep_word-pass_parts-requires : goal.words::sweep_word-pass_parts-requires
 words::sweep_word-pass_parts-requires = words.sweep_word-pass_parts-requires

@@ -64,29 +64,41 @@ invariant-choices::sweep_clauses-loop-place l = record {
 abbrev pub decreases-choices::sweep_clauses-loop-place : goal.decreases-choices::sweep_clauses-loop-place
 decreases-choices::sweep_clauses-loop-place l = length l.clauses - l.place
 
-abbrev pub invariant-words::sweep_elements-loop-element : goal.invariant-words::sweep_elements-loop-element
-invariant-words::sweep_elements-loop-element l = record {
+abbrev pub invariant-words::sweep_elements-loop-place : goal.invariant-words::sweep_elements-loop-place
+invariant-words::sweep_elements-loop-place l = record {
   swept : IsSwept l.subject l.initial.draft.certificate l.draft.certificate l.draft.probe.count;
-  placed : AreElements l.subject (knowledge_facts l.subject.names.now l.inside) (knowledge_facts l.subject.names.now l.behind) (elements_from l.subject.script.now (drop l.element-index l.elements));
+  placed : AreElements l.subject (knowledge_facts l.subject.names.now l.inside) (knowledge_facts l.subject.names.now l.behind) (elements_from l.subject.script.now (drop l.place l.elements));
 }
 
-abbrev pub invariant-words::sweep_redirects-loop-redirect : goal.invariant-words::sweep_redirects-loop-redirect
-invariant-words::sweep_redirects-loop-redirect l = record {
+abbrev pub decreases-words::sweep_elements-loop-place : goal.decreases-words::sweep_elements-loop-place
+decreases-words::sweep_elements-loop-place l = length l.elements - l.place
+
+abbrev pub invariant-words::sweep_redirects-loop-place : goal.invariant-words::sweep_redirects-loop-place
+invariant-words::sweep_redirects-loop-place l = record {
   swept : IsSwept l.subject l.initial.draft.certificate l.draft.certificate l.draft.probe.count;
-  placed : IsIn l.subject (λ q. redirects_entered q (redirects_from l.subject.script.now (drop l.redirect-index l.redirects))) (knowledge_facts l.subject.names.now l.inside);
+  placed : IsIn l.subject (λ q. redirects_entered q (redirects_from l.subject.script.now (drop l.place l.redirects))) (knowledge_facts l.subject.names.now l.inside);
 }
 
-abbrev pub invariant-words::sweep_words-loop-word : goal.invariant-words::sweep_words-loop-word
-invariant-words::sweep_words-loop-word l = record {
+abbrev pub decreases-words::sweep_redirects-loop-place : goal.decreases-words::sweep_redirects-loop-place
+decreases-words::sweep_redirects-loop-place l = length l.redirects - l.place
+
+abbrev pub invariant-words::sweep_words-loop-place : goal.invariant-words::sweep_words-loop-place
+invariant-words::sweep_words-loop-place l = record {
   swept : IsSwept l.subject l.initial.draft.certificate l.draft.certificate l.draft.probe.count;
-  placed : IsIn l.subject (λ q. words_entered q (words_from l.subject.script.now (drop l.word-index l.words))) (knowledge_facts l.subject.names.now l.inside);
+  placed : IsIn l.subject (λ q. words_entered q (words_from l.subject.script.now (drop l.place l.words))) (knowledge_facts l.subject.names.now l.inside);
 }
 
-abbrev pub invariant-words::sweep_patterns-loop-pattern : goal.invariant-words::sweep_patterns-loop-pattern
-invariant-words::sweep_patterns-loop-pattern l = record {
+abbrev pub decreases-words::sweep_words-loop-place : goal.decreases-words::sweep_words-loop-place
+decreases-words::sweep_words-loop-place l = length l.words - l.place
+
+abbrev pub invariant-words::sweep_patterns-loop-place : goal.invariant-words::sweep_patterns-loop-place
+invariant-words::sweep_patterns-loop-place l = record {
   swept : IsSwept l.subject l.initial.draft.certificate l.draft.certificate l.draft.probe.count;
-  placed : IsIn l.subject (λ q. patterns_entered q (words_from l.subject.script.now (drop l.pattern-index l.patterns))) (knowledge_facts l.subject.names.now l.known);
+  placed : IsIn l.subject (λ q. patterns_entered q (words_from l.subject.script.now (drop l.place l.patterns))) (knowledge_facts l.subject.names.now l.known);
 }
+
+abbrev pub decreases-words::sweep_patterns-loop-place : goal.decreases-words::sweep_patterns-loop-place
+decreases-words::sweep_patterns-loop-place l = length l.patterns - l.place
 
 abbrev pub invariant-words::pass_parts-loop-place : goal.invariant-words::pass_parts-loop-place
 invariant-words::pass_parts-loop-place l = record {

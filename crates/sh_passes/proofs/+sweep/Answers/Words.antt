@@ -19,11 +19,11 @@ use Rattle.sh_sweeps.proofs.PlacedLemmas.{at_index, found_below}
 use Rattle.sh_drafts.proofs.ReadyLemmas.{names_numbered, ready_again, swept_more, swept_none}
 use Rattle.sh_domain.specs.Facts.{NotReached}
 use Rattle.sh_sweeps.proofs.KnownLemmas.{unreached}
-use Rattle.sh_sweeps.proofs.WordLemmas.{Along, along_first, along_no_operands, along_no_parts, along_operands, along_parts, arithmetic_gained, arithmetic_placed, assigned_gained, assigned_placed, both_gained, chain_first, chain_gained, chain_rest, choice_condition, choice_gained, choice_no, choice_yes, double_gained, double_placed, element_as, elements_first, expanded_gained, expanded_placed, expansion_gained, expansion_placed, expression_as, expression_gained, file_gained, file_placed, gained_nowhere, here_gained, here_placed, if_ok, link_expression, listed_placed, literal_gained, nothing_gained, operand_inside, operand_next, operand_placed, operands_next, parenthesis_gained, parenthesis_placed, part_as, part_gained, part_placed, pattern_placed, patterns_next, pieces_next, plain_gained, redirect_placed, redirection_next, redirection_placed, redirects_next, remove_placed, signed_gained, signed_placed, substitution_placed, use_gained, use_placed, value_next, value_placed, word_placed, words_next, word_left}
+use Rattle.sh_sweeps.proofs.WordLemmas.{Along, along_first, along_no_operands, along_no_parts, along_operands, along_parts, arithmetic_gained, arithmetic_placed, assigned_gained, assigned_placed, both_gained, chain_first, chain_gained, chain_rest, choice_condition, choice_gained, choice_no, choice_yes, double_gained, double_placed, element_as, elements_first, expanded_gained, expanded_placed, expansion_gained, expansion_placed, expression_as, expression_gained, file_gained, file_placed, gained_nowhere, here_gained, here_placed, if_ok, link_expression, listed_placed, literal_gained, nothing_gained, operand_inside, operand_next, operand_placed, operands_next, parenthesis_gained, parenthesis_placed, part_as, part_gained, part_placed, pattern_placed, patterns_next, pieces_next, plain_gained, redirect_placed, redirection_next, redirection_placed, redirects_next, remove_placed, signed_gained, signed_placed, substitution_placed, use_gained, use_placed, value_next, value_placed, word_placed, words_next, word_left, elements_left, patterns_left, redirects_left, words_left}
 use Rattle.sh_passes.proofs.+sweep.Goals as goal
 
-pub sweep_elements-loop-element-init : goal.words::sweep_elements-loop-element-init
-sweep_elements-loop-element-init t c =
+pub sweep_elements-loop-place-init : goal.words::sweep_elements-loop-place-init
+sweep_elements-loop-place-init t c =
     let s = c.args.subject.now in
     let r = c.requires.ready in
     let k = knowledge_facts s.names.now c.args.known.now in
@@ -35,18 +35,26 @@ sweep_elements-loop-element-init t c =
 pub sweep_elements-sweep_element-requires : goal.words::sweep_elements-sweep_element-requires
 sweep_elements-sweep_element-requires t c =
     let s = c.args.subject.now in
-    let r = c.requires.ready in
-    let ready : IsReady s c.loop-element.draft.certificate c.loop-element.draft.probe.count = ready_again s _ _ _ _ r c.loop-element.invariant.swept in
-    let here : AreElements s (knowledge_facts s.names.now c.loop-element.inside) (knowledge_facts s.names.now c.behind_operands-behind.result) (elements_from s.script.now (c.element-item.result ∷ drop (c.loop-element.element-index + 1) c.args.elements.now)) = subst (λ xs. AreElements s (knowledge_facts s.names.now c.loop-element.inside) (knowledge_facts s.names.now c.behind_operands-behind.result) (elements_from s.script.now xs)) (at_index c.args.elements.now c.loop-element.element-index c.element-item.result c.loop-element-test.true c.element-item.is) c.loop-element.invariant.placed in
-    let placed : (others : List Element) × AreElements s (knowledge_facts s.names.now c.loop-element.inside) (knowledge_facts s.names.now c.behind_operands-behind.result) (elements_from s.script.now (c.element-item.result ∷ others)) = (_, here) in
+    let k = knowledge_facts s.names.now c.loop-place.inside in
+    let b = knowledge_facts s.names.now c.behind_operands-behind.result in
+    let next = c.place_of_text-next.result in
+    let left = elements_left s k b c.goes_by_one-by_one.result c.args.elements.now c.loop-place.place next (λ none. c.goes_by_one-by_one.ensures.known none s.names.now) c.place_of_text-next.ensures.from c.place_of_text-next.ensures.known c.loop-place.invariant.placed in
+    let here : AreElements s k b (elements_from s.script.now (c.index-elements-next.result ∷ drop (next + 1) c.args.elements.now)) =
+    subst (λ xs. AreElements s k b (elements_from s.script.now xs)) (at_index c.args.elements.now next c.index-elements-next.result (found_below next (length c.args.elements.now) c.place_of_text-next.ensures.there c.if-next-elements.false) c.index-elements-next.is) left in
+    let ready : IsReady s c.loop-place.draft.certificate c.loop-place.draft.probe.count = ready_again s _ _ _ _ c.requires.ready c.loop-place.invariant.swept in
+    let placed : (others : List Element) × AreElements s k b (elements_from s.script.now (c.index-elements-next.result ∷ others)) = (_, here) in
     search std_rules
 
-pub sweep_elements-loop-element-preserved : goal.words::sweep_elements-loop-element-preserved
-sweep_elements-loop-element-preserved t c =
+pub sweep_elements-loop-place-preserved : goal.words::sweep_elements-loop-place-preserved
+sweep_elements-loop-place-preserved t c =
     let s = c.args.subject.now in
-    let r = c.requires.ready in
-    let here : AreElements s (knowledge_facts s.names.now c.loop-element.inside) (knowledge_facts s.names.now c.behind_operands-behind.result) (elements_from s.script.now (c.element-item.result ∷ drop (c.loop-element.element-index + 1) c.args.elements.now)) = subst (λ xs. AreElements s (knowledge_facts s.names.now c.loop-element.inside) (knowledge_facts s.names.now c.behind_operands-behind.result) (elements_from s.script.now xs)) (at_index c.args.elements.now c.loop-element.element-index c.element-item.result c.loop-element-test.true c.element-item.is) c.loop-element.invariant.placed in
-    record { swept = swept_more s _ _ _ _ _ c.loop-element.invariant.swept c.in_ok-sweep_element.ensures.swept; placed = c.in_ok-sweep_element.ensures.passed _ here }
+    let k = knowledge_facts s.names.now c.loop-place.inside in
+    let b = knowledge_facts s.names.now c.behind_operands-behind.result in
+    let next = c.place_of_text-next.result in
+    let left = elements_left s k b c.goes_by_one-by_one.result c.args.elements.now c.loop-place.place next (λ none. c.goes_by_one-by_one.ensures.known none s.names.now) c.place_of_text-next.ensures.from c.place_of_text-next.ensures.known c.loop-place.invariant.placed in
+    let here : AreElements s k b (elements_from s.script.now (c.index-elements-next.result ∷ drop (next + 1) c.args.elements.now)) =
+    subst (λ xs. AreElements s k b (elements_from s.script.now xs)) (at_index c.args.elements.now next c.index-elements-next.result (found_below next (length c.args.elements.now) c.place_of_text-next.ensures.there c.if-next-elements.false) c.index-elements-next.is) left in
+    record { swept = swept_more s _ _ _ _ _ c.loop-place.invariant.swept c.in_ok-sweep_element.ensures.swept; placed = c.in_ok-sweep_element.ensures.passed _ here }
 
 pub sweep_element-sweep_word-requires : goal.words::sweep_element-sweep_word-requires
 sweep_element-sweep_word-requires t c =
@@ -89,20 +97,26 @@ sweep_redirections-sweep_redirects-requires t c =
 pub sweep_redirects-pass_target-requires : goal.words::sweep_redirects-pass_target-requires
 sweep_redirects-pass_target-requires t c =
     let s = c.args.subject.now in
-    let r = c.requires.ready in
-    let ready : IsReady s c.loop-redirect.draft.certificate c.loop-redirect.draft.probe.count = ready_again s _ _ _ _ r c.loop-redirect.invariant.swept in
-    let here : IsIn s (λ q. entries.redirects_entered q (redirects_from s.script.now (c.redirect-item.result ∷ drop (c.loop-redirect.redirect-index + 1) c.args.redirects.now))) (knowledge_facts s.names.now c.loop-redirect.inside) = subst (λ xs. IsIn s (λ q. entries.redirects_entered q (redirects_from s.script.now xs)) (knowledge_facts s.names.now c.loop-redirect.inside)) (at_index c.args.redirects.now c.loop-redirect.redirect-index c.redirect-item.result c.loop-redirect-test.true c.redirect-item.is) c.loop-redirect.invariant.placed in
-    let placed : IsIn s (λ q. entries.redirect_entered q (target_of s.script.now c.redirect-item.result.target)) (knowledge_facts s.names.now c.loop-redirect.inside) = redirect_placed s (knowledge_facts s.names.now c.loop-redirect.inside) c.redirect-item.result _ here in
+    let k = knowledge_facts s.names.now c.loop-place.inside in
+    let next = c.place_of_text-next.result in
+    let left = redirects_left s k c.goes_by_one-by_one.result c.args.redirects.now c.loop-place.place next (λ none. c.goes_by_one-by_one.ensures.known none s.names.now) c.place_of_text-next.ensures.from c.place_of_text-next.ensures.known c.loop-place.invariant.placed in
+    let here : IsIn s (λ q. entries.redirects_entered q (redirects_from s.script.now (c.index-redirects-next.result ∷ drop (next + 1) c.args.redirects.now))) k =
+    subst (λ xs. IsIn s (λ q. entries.redirects_entered q (redirects_from s.script.now xs)) k) (at_index c.args.redirects.now next c.index-redirects-next.result (found_below next (length c.args.redirects.now) c.place_of_text-next.ensures.there c.if-next-redirects.false) c.index-redirects-next.is) left in
+    let ready : IsReady s c.loop-place.draft.certificate c.loop-place.draft.probe.count = ready_again s _ _ _ _ c.requires.ready c.loop-place.invariant.swept in
+    let placed : IsIn s (λ q. entries.redirect_entered q (target_of s.script.now c.index-redirects-next.result.target)) k = redirect_placed s k c.index-redirects-next.result _ here in
     search std_rules
 
-pub sweep_redirects-loop-redirect-preserved : goal.words::sweep_redirects-loop-redirect-preserved
-sweep_redirects-loop-redirect-preserved t c =
+pub sweep_redirects-loop-place-preserved : goal.words::sweep_redirects-loop-place-preserved
+sweep_redirects-loop-place-preserved t c =
     let s = c.args.subject.now in
-    let r = c.requires.ready in
-    let here : IsIn s (λ q. entries.redirects_entered q (redirects_from s.script.now (c.redirect-item.result ∷ drop (c.loop-redirect.redirect-index + 1) c.args.redirects.now))) (knowledge_facts s.names.now c.loop-redirect.inside) = subst (λ xs. IsIn s (λ q. entries.redirects_entered q (redirects_from s.script.now xs)) (knowledge_facts s.names.now c.loop-redirect.inside)) (at_index c.args.redirects.now c.loop-redirect.redirect-index c.redirect-item.result c.loop-redirect-test.true c.redirect-item.is) c.loop-redirect.invariant.placed in
+    let k = knowledge_facts s.names.now c.loop-place.inside in
+    let next = c.place_of_text-next.result in
+    let left = redirects_left s k c.goes_by_one-by_one.result c.args.redirects.now c.loop-place.place next (λ none. c.goes_by_one-by_one.ensures.known none s.names.now) c.place_of_text-next.ensures.from c.place_of_text-next.ensures.known c.loop-place.invariant.placed in
+    let here : IsIn s (λ q. entries.redirects_entered q (redirects_from s.script.now (c.index-redirects-next.result ∷ drop (next + 1) c.args.redirects.now))) k =
+    subst (λ xs. IsIn s (λ q. entries.redirects_entered q (redirects_from s.script.now xs)) k) (at_index c.args.redirects.now next c.index-redirects-next.result (found_below next (length c.args.redirects.now) c.place_of_text-next.ensures.there c.if-next-redirects.false) c.index-redirects-next.is) left in
     record {
-      swept = swept_more s _ _ _ _ _ c.loop-redirect.invariant.swept c.in_ok-pass_target.ensures.swept;
-      placed = redirects_next s (knowledge_facts s.names.now c.loop-redirect.inside) (knowledge_facts s.names.now c.pass_target.new.known) c.redirect-item.result _ c.in_ok-pass_target.ensures.gained here;
+      swept = swept_more s _ _ _ _ _ c.loop-place.invariant.swept c.in_ok-pass_target.ensures.swept;
+      placed = redirects_next s k (knowledge_facts s.names.now c.pass_target.new.known) c.index-redirects-next.result _ c.in_ok-pass_target.ensures.gained here;
     }
 
 pub pass_target-pass_word-requires : goal.words::pass_target-pass_word-requires
@@ -133,39 +147,51 @@ pass_word-returns-then-not-may_wait_in-clause-gained t c =
 pub sweep_words-pass_word-requires : goal.words::sweep_words-pass_word-requires
 sweep_words-pass_word-requires t c =
     let s = c.args.subject.now in
-    let r = c.requires.ready in
-    let ready : IsReady s c.loop-word.draft.certificate c.loop-word.draft.probe.count = ready_again s _ _ _ _ r c.loop-word.invariant.swept in
-    let here : IsIn s (λ q. entries.words_entered q (words_from s.script.now (c.word-item.result ∷ drop (c.loop-word.word-index + 1) c.args.words.now))) (knowledge_facts s.names.now c.loop-word.inside) = subst (λ xs. IsIn s (λ q. entries.words_entered q (words_from s.script.now xs)) (knowledge_facts s.names.now c.loop-word.inside)) (at_index c.args.words.now c.loop-word.word-index c.word-item.result c.loop-word-test.true c.word-item.is) c.loop-word.invariant.placed in
-    let placed : IsWord s (knowledge_facts s.names.now c.loop-word.inside) (parts_from s.script.now c.word-item.result.parts) = word_placed s (knowledge_facts s.names.now c.loop-word.inside) c.word-item.result _ here in
+    let k = knowledge_facts s.names.now c.loop-place.inside in
+    let next = c.place_of_text-next.result in
+    let left = words_left s k c.is_reached-by_one.result c.args.words.now c.loop-place.place next (λ none. unreached k _ (c.is_reached-by_one.ensures s.names.now) none) c.place_of_text-next.ensures.from c.place_of_text-next.ensures.known c.loop-place.invariant.placed in
+    let here : IsIn s (λ q. entries.words_entered q (words_from s.script.now (c.index-words-next.result ∷ drop (next + 1) c.args.words.now))) k =
+    subst (λ xs. IsIn s (λ q. entries.words_entered q (words_from s.script.now xs)) k) (at_index c.args.words.now next c.index-words-next.result (found_below next (length c.args.words.now) c.place_of_text-next.ensures.there c.if-next-words.false) c.index-words-next.is) left in
+    let ready : IsReady s c.loop-place.draft.certificate c.loop-place.draft.probe.count = ready_again s _ _ _ _ c.requires.ready c.loop-place.invariant.swept in
+    let placed : IsWord s k (parts_from s.script.now c.index-words-next.result.parts) = word_placed s k c.index-words-next.result _ here in
     search std_rules
 
-pub sweep_words-loop-word-preserved : goal.words::sweep_words-loop-word-preserved
-sweep_words-loop-word-preserved t c =
+pub sweep_words-loop-place-preserved : goal.words::sweep_words-loop-place-preserved
+sweep_words-loop-place-preserved t c =
     let s = c.args.subject.now in
-    let r = c.requires.ready in
-    let here : IsIn s (λ q. entries.words_entered q (words_from s.script.now (c.word-item.result ∷ drop (c.loop-word.word-index + 1) c.args.words.now))) (knowledge_facts s.names.now c.loop-word.inside) = subst (λ xs. IsIn s (λ q. entries.words_entered q (words_from s.script.now xs)) (knowledge_facts s.names.now c.loop-word.inside)) (at_index c.args.words.now c.loop-word.word-index c.word-item.result c.loop-word-test.true c.word-item.is) c.loop-word.invariant.placed in
+    let k = knowledge_facts s.names.now c.loop-place.inside in
+    let next = c.place_of_text-next.result in
+    let left = words_left s k c.is_reached-by_one.result c.args.words.now c.loop-place.place next (λ none. unreached k _ (c.is_reached-by_one.ensures s.names.now) none) c.place_of_text-next.ensures.from c.place_of_text-next.ensures.known c.loop-place.invariant.placed in
+    let here : IsIn s (λ q. entries.words_entered q (words_from s.script.now (c.index-words-next.result ∷ drop (next + 1) c.args.words.now))) k =
+    subst (λ xs. IsIn s (λ q. entries.words_entered q (words_from s.script.now xs)) k) (at_index c.args.words.now next c.index-words-next.result (found_below next (length c.args.words.now) c.place_of_text-next.ensures.there c.if-next-words.false) c.index-words-next.is) left in
     record {
-      swept = swept_more s _ _ _ _ _ c.loop-word.invariant.swept c.in_ok-pass_word.ensures.swept;
-      placed = words_next s (knowledge_facts s.names.now c.loop-word.inside) (knowledge_facts s.names.now c.pass_word.new.known) c.word-item.result _ c.in_ok-pass_word.ensures.gained here;
+      swept = swept_more s _ _ _ _ _ c.loop-place.invariant.swept c.in_ok-pass_word.ensures.swept;
+      placed = words_next s k (knowledge_facts s.names.now c.pass_word.new.known) c.index-words-next.result _ c.in_ok-pass_word.ensures.gained here;
     }
 
 pub sweep_patterns-sweep_word-requires : goal.words::sweep_patterns-sweep_word-requires
 sweep_patterns-sweep_word-requires t c =
     let s = c.args.subject.now in
-    let r = c.requires.ready in
-    let ready : IsReady s c.loop-pattern.draft.certificate c.loop-pattern.draft.probe.count = ready_again s _ _ _ _ r c.loop-pattern.invariant.swept in
-    let here : IsIn s (λ q. entries.patterns_entered q (words_from s.script.now (c.pattern-item.result ∷ drop (c.loop-pattern.pattern-index + 1) c.args.patterns.now))) (knowledge_facts s.names.now c.args.known.now) = subst (λ xs. IsIn s (λ q. entries.patterns_entered q (words_from s.script.now xs)) (knowledge_facts s.names.now c.args.known.now)) (at_index c.args.patterns.now c.loop-pattern.pattern-index c.pattern-item.result c.loop-pattern-test.true c.pattern-item.is) c.loop-pattern.invariant.placed in
-    let placed : IsWord s (knowledge_facts s.names.now c.args.known.now) (parts_from s.script.now c.pattern-item.result.parts) = pattern_placed s (knowledge_facts s.names.now c.args.known.now) c.pattern-item.result _ here in
+    let k = knowledge_facts s.names.now c.args.known.now in
+    let next = c.place_of_text-next.result in
+    let left = patterns_left s k c.is_reached-by_one.result c.args.patterns.now c.loop-place.place next c.place_of_text-next.ensures.from c.place_of_text-next.ensures.known c.loop-place.invariant.placed in
+    let here : IsIn s (λ q. entries.patterns_entered q (words_from s.script.now (c.index-patterns-next.result ∷ drop (next + 1) c.args.patterns.now))) k =
+    subst (λ xs. IsIn s (λ q. entries.patterns_entered q (words_from s.script.now xs)) k) (at_index c.args.patterns.now next c.index-patterns-next.result (found_below next (length c.args.patterns.now) c.place_of_text-next.ensures.there c.if-next-patterns.false) c.index-patterns-next.is) left in
+    let ready : IsReady s c.loop-place.draft.certificate c.loop-place.draft.probe.count = ready_again s _ _ _ _ c.requires.ready c.loop-place.invariant.swept in
+    let placed : IsWord s k (parts_from s.script.now c.index-patterns-next.result.parts) = pattern_placed s k c.index-patterns-next.result _ here in
     search std_rules
 
-pub sweep_patterns-loop-pattern-preserved : goal.words::sweep_patterns-loop-pattern-preserved
-sweep_patterns-loop-pattern-preserved t c =
+pub sweep_patterns-loop-place-preserved : goal.words::sweep_patterns-loop-place-preserved
+sweep_patterns-loop-place-preserved t c =
     let s = c.args.subject.now in
-    let r = c.requires.ready in
-    let here : IsIn s (λ q. entries.patterns_entered q (words_from s.script.now (c.pattern-item.result ∷ drop (c.loop-pattern.pattern-index + 1) c.args.patterns.now))) (knowledge_facts s.names.now c.args.known.now) = subst (λ xs. IsIn s (λ q. entries.patterns_entered q (words_from s.script.now xs)) (knowledge_facts s.names.now c.args.known.now)) (at_index c.args.patterns.now c.loop-pattern.pattern-index c.pattern-item.result c.loop-pattern-test.true c.pattern-item.is) c.loop-pattern.invariant.placed in
+    let k = knowledge_facts s.names.now c.args.known.now in
+    let next = c.place_of_text-next.result in
+    let left = patterns_left s k c.is_reached-by_one.result c.args.patterns.now c.loop-place.place next c.place_of_text-next.ensures.from c.place_of_text-next.ensures.known c.loop-place.invariant.placed in
+    let here : IsIn s (λ q. entries.patterns_entered q (words_from s.script.now (c.index-patterns-next.result ∷ drop (next + 1) c.args.patterns.now))) k =
+    subst (λ xs. IsIn s (λ q. entries.patterns_entered q (words_from s.script.now xs)) k) (at_index c.args.patterns.now next c.index-patterns-next.result (found_below next (length c.args.patterns.now) c.place_of_text-next.ensures.there c.if-next-patterns.false) c.index-patterns-next.is) left in
     record {
-      swept = swept_more s _ _ _ _ _ c.loop-pattern.invariant.swept c.in_ok-sweep_word.ensures.swept;
-      placed = patterns_next s (knowledge_facts s.names.now c.args.known.now) c.pattern-item.result _ here;
+      swept = swept_more s _ _ _ _ _ c.loop-place.invariant.swept c.in_ok-sweep_word.ensures.swept;
+      placed = patterns_next s k c.index-patterns-next.result _ here;
     }
 
 pub sweep_word-pass_parts-requires : goal.words::sweep_word-pass_parts-requires

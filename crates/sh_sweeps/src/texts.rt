@@ -1,0 +1,118 @@
+//! Where a sweep goes on among the words of a command: at the next in which a command may wait, by
+//! where that begins in the script. All of this is hints.
+ghost use Rattle.std.specs.Prelude.{◌≡◌, ◌≤◌, ◌<◌, List, true, false, length};
+ghost use Rattle.sh_tree.specs.standard.program.Syntax.{Text as Bytes};
+ghost use Rattle.sh_domain.specs.Facts.{NotReached};
+ghost use Rattle.sh_domain.specs.Knowledge.{knowledge_facts};
+
+use sh_domain::Knowledge;
+use sh_drafts::Subject;
+use sh_tree::{Element, Redirect, Target, Word};
+use sh_worklist::Waiting;
+
+// So few are looked at one by one.
+const FEW: usize = 8;
+
+/// A word, or what has one. Each begins after the one before it, except in a here-document.
+pub trait Text {
+    /// Where it begins in the script.
+    fn start(&self) -> u32;
+}
+
+impl Text for Word {
+    fn start(&self) -> u32 {
+        self.span.start
+    }
+}
+
+impl Text for Redirect {
+    fn start(&self) -> u32 {
+        self.at
+    }
+}
+
+impl Text for Element {
+    fn start(&self) -> u32 {
+        match self {
+            Element::Assignment { name, .. } => name.start,
+            Element::Word(word) => word.span.start,
+            Element::Redirection(redirect) => redirect.at,
+        }
+    }
+}
+
+fn is_document(redirect: &Redirect) -> bool {
+    matches!(redirect.target, Target::Here(_))
+}
+
+/// Whether the words of redirections are elsewhere in the script.
+pub fn have_documents(redirects: &[Redirect]) -> bool {
+    redirects.iter().any(|redirect| is_document(redirect))
+}
+
+/// Whether those of elements are.
+pub fn hold_documents(elements: &[Element]) -> bool {
+    elements.iter().any(|element| match element {
+        Element::Redirection(redirect) => is_document(redirect),
+        _ => false,
+    })
+}
+
+/// Whether a sweep goes over elements one by one, since something is known or some have documents.
+#[tactic(auto, using(crate::proofs::KnownLemmas::unreached))]
+pub fn goes_by_one(has_documents: bool, known: &Knowledge, behind: &Knowledge) -> bool
+    ensures known { result ≡ false → (names : List Bytes) → knowledge_facts names known.now ≡ NotReached }
+    ensures behind { result ≡ false → (names : List Bytes) → knowledge_facts names behind.now ≡ NotReached }
+{
+    has_documents || known.is_reached() || behind.is_reached()
+}
+
+// The last place from a place on of a text that begins at an offset or before it, or that place.
+fn place_at<T: Text>(texts: &[T], from: usize, offset: u32) -> usize
+    requires { from < length texts.now }
+    ensures from { from ≤ result }
+    ensures there { result < length texts.now }
+{
+    let count = texts[from..].partition_point(|text| text.start() <= offset);
+    from + count.saturating_sub(1)
+}
+
+// The number of the first command that begins at an offset or after it. Numbers are from 1.
+fn number_at(subject: &Subject<'_>, offset: u32) -> u32 {
+    let before = subject
+        .commands
+        .partition_point(|command| command.at < offset);
+    u32::try_from(before).unwrap_or(u32::MAX).saturating_add(1)
+}
+
+// Where the command of a number begins.
+fn offset_of(subject: &Subject<'_>, number: u32) -> u32 {
+    match subject.commands.get((number as usize).saturating_sub(1)) {
+        Some(command) => command.at,
+        None => u32::MAX,
+    }
+}
+
+/// The place from a place on at which a sweep goes on: there if it goes one by one, or else at the
+/// first text in which a command may wait. Their count if there is none.
+pub fn place_of_text<T: Text>(
+    subject: &Subject<'_>,
+    waiting: &Waiting,
+    by_one: bool,
+    texts: &[T],
+    from: usize,
+) -> usize
+    requires { from < length texts.now }
+    ensures from { from ≤ result }
+    ensures there { result ≤ length texts.now }
+    ensures known { by_one ≡ true → result ≡ from }
+{
+    if by_one || texts.len() - from <= FEW {
+        return from;
+    }
+    let first = number_at(subject, texts[from].start());
+    match waiting.next(first, u32::MAX) {
+        Some(number) => place_at(texts, from, offset_of(subject, number)),
+        None => texts.len(),
+    }
+}
