@@ -14,7 +14,7 @@ use Rattle.sh_tree.specs.declared.tree.Action.TheVariants as action
 use Rattle.sh_tree.specs.declared.tree.Script.{Script}
 use Rattle.sh_tree.specs.standard.language.Reading.{Reads}
 use Rattle.sh_tree.specs.standard.program.Syntax as p
-use Rattle.sh_tree.specs.standard.program.Syntax.{Text, Word}
+use Rattle.sh_tree.specs.standard.program.Syntax.{Text}
 use Rattle.sh_tree.specs.standard.program.Trees.{script_of}
 use Rattle.sh_runs.specs.Surroundings.{Located, outside, items_located}
 use Rattle.sh_reads.specs.Spots.{EachOnce}

@@ -7,7 +7,7 @@ use Rattle.sh_tree.specs.declared.tree.Word.{Word}
 use Rattle.sh_tree.specs.standard.Words as tree
 use Rattle.sh_tree.specs.standard.Words.{static_text, words_of}
 use Rattle.sh_tree.specs.standard.program.Words.{operands_in, static_of, words_in}
-use Rattle.sh_tree.specs.Lists.{element_from, parts_from}
+use Rattle.sh_tree.specs.Lists.{element_from}
 use Rattle.sh_tree.proofs.ProgramRules.{kind_of-Simple, parts_listed}
 use Rattle.sh_tree.proofs.ProgramWords.{static_of_parts}
 use Rattle.sh_runs.specs.Sites.{form_of, statics}

@@ -15,7 +15,6 @@ use Rattle.sh_tree.specs.declared.tree.Unary.{Unary}
 use Rattle.sh_tree.specs.standard.Tree.{text_of}
 use Rattle.sh_tree.specs.Lists.{operands_from}
 use Rattle.sh_tree.specs.standard.program.Syntax as p
-use Rattle.sh_tree.specs.standard.program.Syntax.{Text}
 use Rattle.sh_tree.specs.standard.program.Trees as trees
 use Rattle.sh_tree.proofs.ProgramRules as rules
 use Rattle.sh_runs.specs.standard.runs.Numbers.{digits}

@@ -13,7 +13,7 @@ use Rattle.sh_domain.specs.Facts.{Claim, Unreached, Claimed}
 use Rattle.sh_domain.specs.Operands.{Names}
 use Rattle.sh_domain.specs.Sheets.{Sheet, CommandClaims, FunctionClaims, joined, names_text, claim_text, drops_text, head_fields, command_fields, function_fields, numbered_lines, first_line, count_fields, certificate_text}
 use Rattle.sh_domain.specs.Forms as form
-use Rattle.sh_domain.specs.Forms.{onto_first, pieces, value, leads_no_zero, number_in, is_rising, are_rising, both, drops_of, known_of, claim_in, drops_in, claims_of, head_of, command_of, function_claims_of, function_of, counts_of, onto_front, cut_at, formed, whole_line, behind, read_line, read_lines, is_first, counts_in, command_in, function_in, ended, read_sheet}
+use Rattle.sh_domain.specs.Forms.{onto_first, pieces, value, leads_no_zero, number_in, are_rising, both, drops_of, known_of, claim_in, drops_in, claims_of, head_of, command_of, function_claims_of, function_of, counts_of, onto_front, cut_at, formed, whole_line, behind, read_line, read_lines, is_first, counts_in, command_in, function_in, ended, read_sheet}
 
 abbrev dash : Text
 dash = codes "-"

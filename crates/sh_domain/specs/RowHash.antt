@@ -1,4 +1,4 @@
--- What a `RowHasher` computes.
+-- What a `RowHasher` computes: shset's own; the standard has none.
 use Rattle.std.specs.Prelude.{ℕ, ◌==◌, List, [], ◌∷◌, length, if◌then◌else◌, slice_index, bit_xor}
 use Rattle.std.specs.Hash.FoldHasher as default
 use Rattle.std.specs.Int.{w64, from_le_bytes, rotate_left}

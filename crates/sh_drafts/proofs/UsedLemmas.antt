@@ -25,7 +25,7 @@ use Rattle.sh_drafts.specs.declared.place.Part.{Part}
 use Rattle.sh_drafts.specs.declared.place.Part.TheVariants.{Before, Zero, Nonzero, Head, Entered, ReturnZero, ReturnNonzero}
 use Rattle.sh_drafts.specs.declared.place.Place.{Place}
 use Rattle.sh_drafts.specs.declared.used.Used.{Used}
-use Rattle.sh_drafts.specs.Facts.{Facts, NotReached, Known}
+use Rattle.sh_drafts.specs.Facts.{Known}
 use Rattle.sh_drafts.specs.Facts as number
 use Rattle.sh_drafts.specs.Kept.{fact_of, IsPlaced}
 use Rattle.sh_drafts.specs.Places.{is_of_command, is_of_function, entry_part, function_part, kept_at, drops_at}

@@ -1,4 +1,4 @@
--- What the certificate of a script claims.
+-- What the certificate of a script claims: shset's own; the standard has none.
 use Rattle.std.specs.Prelude.{ℕ, List}
 use Rattle.sh_tree.specs.declared.tree.Script.{Script}
 use Rattle.sh_tree.specs.standard.program.Syntax.{Text}

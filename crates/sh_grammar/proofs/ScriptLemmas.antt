@@ -9,7 +9,7 @@ use Rattle.sh_tree.specs.declared.tree.Script.{Script}
 use Rattle.sh_tree.specs.Answers.{IsText, Parses, first_nul}
 use Rattle.sh_tree.specs.standard.language.Commands.{blanks, lead_at}
 use Rattle.sh_tree.specs.standard.language.Reading as r
-use Rattle.sh_tree.specs.standard.language.Reading.{is_some, ReadsSequence, ReadsTo, Reads, ReadsWithin}
+use Rattle.sh_tree.specs.standard.language.Reading.{is_some, ReadsSequence, ReadsTo, Reads}
 use Rattle.sh_tree.specs.standard.language.States as states
 use Rattle.sh_tree.specs.standard.language.States.{Document, nth, waits}
 use Rattle.sh_tree.proofs.Inversions.{apart}

@@ -24,11 +24,11 @@ use Rattle.sh_tree.specs.standard.program.Words.{assignment_in, words_in}
 use Rattle.sh_tree.proofs.ProgramForms.{operands_of_elements}
 use Rattle.sh_tree.proofs.ProgramRules as rules
 use Rattle.sh_runs.specs.Profile.{Static}
-use Rattle.sh_quote.specs.Places.{told_at, word_places, parts_places}
+use Rattle.sh_quote.specs.Places.{word_places, parts_places}
 use Rattle.sh_quote.specs.Steady.{for_words}
 use Rattle.sh_quote.specs.Elements.{split}
 use Rattle.sh_quote.specs.Patterns.{parts_begin}
-use Rattle.sh_quote.specs.Quotations.{told, part_told}
+use Rattle.sh_quote.specs.Quotations.{part_told}
 use Rattle.sh_quote.specs.Unquoted.{part_form, begins_form, is_form, word_told, operand_told, declares, words_told, split_by, split_kind, kind_told}
 use Rattle.sh_quote.proofs.OperandLemmas.{split_some, split_none}
 use Rattle.sh_quote.proofs.PatternLemmas as patterns

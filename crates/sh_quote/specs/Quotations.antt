@@ -5,7 +5,6 @@ use Rattle.std.specs.List.{list_all}
 use Rattle.sh_tree.specs.declared.place.Place.{Place}
 use Rattle.sh_tree.specs.declared.tree.ParameterOperator.{ParameterOperator}
 use Rattle.sh_tree.specs.declared.tree.Part.{Part}
-use Rattle.sh_tree.specs.declared.tree.Part.TheVariants as part
 use Rattle.sh_tree.specs.declared.tree.Special.{Special}
 use Rattle.sh_tree.specs.declared.tree.Subject.{Subject}
 use Rattle.sh_tree.specs.declared.tree.Subject.TheVariants as subject

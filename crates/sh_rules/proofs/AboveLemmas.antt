@@ -19,7 +19,7 @@ use Rattle.sh_domain.specs.Order.{IsWithin, IsBelow, seen_facts, Fits}
 use Rattle.sh_domain.specs.Rules as r
 use Rattle.sh_domain.specs.Rules.{Constraint, Within, Counted, bound, bounds, losses}
 use Rattle.sh_domain.specs.Table.{is_redirected}
-use Rattle.sh_domain.specs.Views.{Certificate, Slot, Before, Seen, After, Both, if_zero, if_nonzero, at, at_start, gaining, step, Lose, Gain, View, view_facts, Loss, lost}
+use Rattle.sh_domain.specs.Views.{Certificate, Slot, Before, Seen, Both, if_zero, if_nonzero, at, at_start, gaining, step, Lose, Gain, View, view_facts, Loss, lost}
 use Rattle.sh_domain.specs.Views as views
 use Rattle.sh_domain.proofs.EachLemmas.{each_join, each_parts, each_none, each_of_all}
 use Rattle.sh_domain.proofs.MonotoneLemmas.{step_grows, seen_grows, meet_grows, told_none, fits_below}

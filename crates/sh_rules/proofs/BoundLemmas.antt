@@ -18,7 +18,7 @@ use Rattle.sh_domain.specs.Order.{seen_facts}
 use Rattle.sh_domain.specs.Rules as r
 use Rattle.sh_domain.specs.Rules.{Constraint, bound, leaves}
 use Rattle.sh_domain.specs.Table.{is_redirected}
-use Rattle.sh_domain.specs.Views.{Certificate, Slot, Before, AfterZero, AfterNonzero, Head, ReturnsZero, ReturnsNonzero, Seen, After, Both, Each, if_zero, if_nonzero, at, gaining, gaining_names, stepped, step, where_known}
+use Rattle.sh_domain.specs.Views.{Certificate, Slot, Before, AfterZero, AfterNonzero, Head, ReturnsZero, ReturnsNonzero, Seen, After, Both, if_zero, if_nonzero, at, gaining, gaining_names, stepped, step, where_known}
 use Rattle.sh_domain.specs.Views as views
 use Rattle.sh_domain.proofs.MeetLemmas.{known_same, seen_is_meet}
 use Rattle.sh_rules.specs.Asking.{Asking}

@@ -16,7 +16,7 @@ use Rattle.sh_domain.specs.Knowledge.{AreNumbered, among, contains, knowledge_fa
 use Rattle.sh_domain.specs.Operands.{no_names, total}
 use Rattle.sh_domain.specs.Table.{operands, prefixes}
 use Rattle.sh_domain.specs.Views as views
-use Rattle.sh_domain.specs.Views.{Certificate, Slot, Count, step, where_known, returned, passes}
+use Rattle.sh_domain.specs.Views.{Certificate, Slot, Count, step, where_known, returned}
 use Rattle.sh_domain.proofs.KnowledgeLemmas.{either_with, either_without}
 use Rattle.sh_domain.proofs.KnownNameLemmas.{names_suffice}
 use Rattle.sh_domain.proofs.MeetLemmas.{known_same}

@@ -10,7 +10,7 @@ use Rattle.sh_runs.specs.Profile.{Static}
 use Rattle.sh_table.specs.WordTexts.{text_in}
 use Rattle.sh_table.specs.declared.word_text.WordText.{WordText}
 use Rattle.sh_runs.specs.standard.runs.Numbers.{number_in}
-use Rattle.sh_runs.specs.standard.runs.Operands.{Removal, OfVariables, OfFunctions, OfEither, OfAny, ReadOption, Complete, TakesNext, Other, read_option, unset_from, unset_operands, ends_options, is_dashed, is_set_option, ends_in_o, has_command}
+use Rattle.sh_runs.specs.standard.runs.Operands.{Removal, OfVariables, OfFunctions, OfEither, OfAny, ReadOption, Complete, TakesNext, Other, read_option, unset_operands, ends_options, is_dashed, is_set_option, ends_in_o, has_command}
 use Rattle.sh_runs.specs.standard.runs.Operands as o
 use Rattle.sh_domain.specs.Facts.{Facts, NotReached, Known}
 use Rattle.sh_domain.specs.Operands.{Names, removed, status, statics, words_from, unset_names, read_names, getopts_names, positional_words, first_number, return_status, runs_command}

@@ -16,11 +16,11 @@ use Rattle.sh_domain.specs.Meets.{is_call}
 use Rattle.sh_domain.specs.Operands.{Names, Total, total, first_number, positional_words, return_status, declared_names, read_names, getopts_names, unset_names, runs_command}
 use Rattle.sh_domain.specs.Order.{seen_facts}
 use Rattle.sh_domain.specs.Rules as r
-use Rattle.sh_domain.specs.Rules.{Constraint, bound, leaves}
+use Rattle.sh_domain.specs.Rules.{bound, leaves}
 use Rattle.sh_domain.specs.Table as table
 use Rattle.sh_domain.specs.Table.{Manner, Nameless, Utility, manner, prefixes, assignments_gains, is_redirected}
 use Rattle.sh_domain.specs.Views as views
-use Rattle.sh_domain.specs.Views.{Certificate, Slot, Before, AfterZero, AfterNonzero, Head, Entry, ReturnsZero, ReturnsNonzero, Seen, After, Both, Each, Step, Gain, Lose, Count, Shift, Define, at, gaining, gaining_names, step, steps, where_known, source_facts, kept, passes, returned}
+use Rattle.sh_domain.specs.Views.{Certificate, Slot, Before, AfterZero, AfterNonzero, Head, Entry, ReturnsZero, ReturnsNonzero, Seen, After, Lose, Count, Shift, at, gaining, gaining_names, step, steps, where_known, source_facts, kept, passes, returned}
 use Rattle.sh_domain.proofs.MeetLemmas.{known_same, seen_is_meet}
 use Rattle.sh_rules.specs.Asking.{Asking}
 use Rattle.sh_rules.specs.Settings.{Setting, certificate, known_at, gained}

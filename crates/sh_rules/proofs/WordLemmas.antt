@@ -17,7 +17,7 @@ use Rattle.sh_domain.specs.Facts.{Facts}
 use Rattle.sh_domain.specs.Operands.{positional_words, first_number}
 use Rattle.sh_domain.specs.Rules.{loop_at, jump_loop}
 use Rattle.sh_domain.specs.Table as table
-use Rattle.sh_domain.specs.Table.{Manner, Utility, operands, prefixes, manner, manner_of_words, manner_of_name, is_special}
+use Rattle.sh_domain.specs.Table.{Utility, operands, prefixes, manner, manner_of_words, manner_of_name, is_special}
 use Rattle.sh_domain.specs.Views.{Lose}
 use Rattle.sh_operands.specs.Numerals.{most, capped}
 use Rattle.sh_rules.specs.Asking.{Asking}

@@ -13,7 +13,7 @@ use Rattle.sh_domain.specs.Faults.{Fault}
 use Rattle.sh_domain.specs.Gains.{named, word_gains, words_gains}
 use Rattle.sh_domain.specs.Knowledge.{among}
 use Rattle.sh_domain.specs.Rules.{is_last, matches_always}
-use Rattle.sh_domain.specs.Views.{Slot, Before, AfterZero, AfterNonzero, Head, ReturnsZero, ReturnsNonzero, step}
+use Rattle.sh_domain.specs.Views.{Before, AfterZero, AfterNonzero, Head, ReturnsZero, ReturnsNonzero, step}
 use Rattle.sh_domain.specs.Views as views
 use Rattle.sh_rules.specs.Asking.{Asking}
 use Rattle.sh_rules.specs.Settings.{Setting, certificate, known_at, gained}

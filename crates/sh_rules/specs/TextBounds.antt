@@ -5,7 +5,7 @@ use Rattle.std.specs.Prelude.{ℕ, Bool, if◌then◌else◌, List, [], drop, co
 use Rattle.sh_tree.specs.declared.known.KnownName.{KnownName}
 use Rattle.sh_tree.specs.declared.known.KnownName.TheVariants as known
 use Rattle.sh_tree.specs.standard.program.Syntax as p
-use Rattle.sh_tree.specs.standard.program.Syntax.{Text, Word}
+use Rattle.sh_tree.specs.standard.program.Syntax.{Word}
 use Rattle.sh_tree.specs.standard.program.Words.{redirects_in}
 use Rattle.sh_runs.specs.Profile.{Static}
 use Rattle.sh_runs.specs.declared.kind.Kind.{Kind}

@@ -17,13 +17,13 @@ use Rattle.sh_domain.specs.Facts.{Facts, NotReached, Known, Variable, claims, fa
 use Rattle.sh_domain.specs.Faults.{are_among}
 use Rattle.sh_domain.specs.Gains.{Gains, named, with_gains, words_gains, job}
 use Rattle.sh_domain.specs.Inclusions as i
-use Rattle.sh_domain.specs.Inclusions.{Covers, MayDrop, BodyRules, CallRules, behind}
+use Rattle.sh_domain.specs.Inclusions.{MayDrop, BodyRules, CallRules, behind}
 use Rattle.sh_domain.specs.Operands.{Names, Total, total}
 use Rattle.sh_domain.specs.Rules.{losses_by, builtin_losses}
 use Rattle.sh_domain.specs.Table as table
 use Rattle.sh_domain.specs.Table.{prefixes}
 use Rattle.sh_domain.specs.Views as views
-use Rattle.sh_domain.specs.Views.{Certificate, Slot, Before, AfterZero, AfterNonzero, Entry, ReturnsZero, ReturnsNonzero, Lose, Count, Call, Seen, After, Both, if_zero, if_nonzero, after_command, at, gaining_names, stepped, where_known, counted_by, passes, returned, called, step, steps, source_facts, where_reached, Loss, lost}
+use Rattle.sh_domain.specs.Views.{Certificate, Slot, Before, AfterZero, AfterNonzero, Entry, ReturnsZero, ReturnsNonzero, Lose, Count, Call, After, if_zero, if_nonzero, after_command, at, gaining_names, stepped, where_known, counted_by, passes, returned, called, step, steps, source_facts, where_reached, lost}
 use Rattle.sh_sound.specs.Holding.{Holds, Has, OneHolds, Leads}
 use Rattle.sh_sound.specs.Going.{number_of, unset_before, Apart, after_function, ReturnAt}
 use Rattle.sh_sound.specs.Doing.{behind_facts, parameters, RulesAt}

@@ -12,11 +12,11 @@ use Rattle.sh_runs.specs.standard.runs.Work.{Work, Command, Compound, Effect, go
 use Rattle.sh_domain.specs.declared.rule.FlowRule.{FlowRule}
 use Rattle.sh_domain.specs.Demands.{kind_unmet, elements_unmet}
 use Rattle.sh_domain.specs.Entries as entries
-use Rattle.sh_domain.specs.Entries.{Around, Entered, behind_redirects}
+use Rattle.sh_domain.specs.Entries.{Around, behind_redirects}
 use Rattle.sh_domain.specs.Facts.{Facts, facts}
 use Rattle.sh_domain.specs.Gains.{no_gains, with_gains, word_gains, words_gains, redirects_gains}
 use Rattle.sh_domain.specs.Inclusions as i
-use Rattle.sh_domain.specs.Inclusions.{behind, CommandRules, EnteredRules, elements_formed, field_formed, word_formed, redirect_formed, redirects_formed, kind_formed, command_formed}
+use Rattle.sh_domain.specs.Inclusions.{behind, EnteredRules, elements_formed, field_formed, word_formed, redirect_formed, redirects_formed, kind_formed, command_formed}
 use Rattle.sh_domain.specs.Needs.{word_unmet, redirect_unmet}
 use Rattle.sh_domain.specs.Rules.{defined_by, losses}
 use Rattle.sh_domain.specs.Table.{is_redirected}

@@ -17,7 +17,6 @@ use Rattle.sh_domain.specs.Gains.{job, and_gains, word_gains, redirect_gains, re
 use Rattle.sh_domain.specs.Views.{Certificate, Before, AfterZero, AfterNonzero, Lose, Define, Seen, After, Both, if_zero, if_nonzero, in_any_case, after_command, at, gaining, stepped, without_job, where_known, step}
 use Rattle.sh_sound.specs.Holding.{Holds, Grows, OneHolds, Entails, Expanded}
 use Rattle.sh_domain.specs.Inclusions as i
-use Rattle.sh_domain.specs.Inclusions.{Covers, Leaves}
 use Rattle.sh_sound.specs.Going.{around, front, RedirectsAt, ForWordsAt, ItemsAt, BodyOk, Bodies, KindAt, CompoundAt, FrontGood, Good, GoodIn, Stays, ProcessOk, StartOk, StartsOk, NextOk, StepOk}
 use Rattle.sh_sound.proofs.HoldLemmas.{grows_refl, one_grows, one_stepped, covers_at, holds_gain, both_holds, leaves_lead}
 use Rattle.sh_sound.proofs.ExpansionLemmas.{without_job_holds}

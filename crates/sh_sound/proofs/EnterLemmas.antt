@@ -13,14 +13,14 @@ use Rattle.sh_runs.specs.standard.runs.Work.{Work, Compound, Copies, Effect, goe
 use Rattle.sh_domain.specs.declared.rule.FlowRule.TheVariants.{F7, F8, F9, F10, F11, F13}
 use Rattle.sh_domain.specs.Demands.{kind_unmet, clauses_unmet, for_words_unmet}
 use Rattle.sh_domain.specs.Entries as entries
-use Rattle.sh_domain.specs.Entries.{Around, alone, in_loop, in_function, items_after, turns, behind_list}
+use Rattle.sh_domain.specs.Entries.{Around, alone, in_loop, items_after, behind_list}
 use Rattle.sh_domain.specs.Facts.{Facts}
 use Rattle.sh_domain.specs.Gains.{Gains, no_gains, with_gains, word_gains, redirect_gains, redirects_gains}
 use Rattle.sh_domain.specs.Needs.{word_unmet, words_unmet, patterns_unmet, redirect_unmet, redirects_unmet}
 use Rattle.sh_domain.specs.Views.{Certificate, Before, Head, Seen, After, Both, in_any_case, after_command, at, gaining, without_job}
 use Rattle.sh_sound.specs.Holding.{Stands, Holds, OneHolds, Entails}
 use Rattle.sh_domain.specs.Inclusions as i
-use Rattle.sh_domain.specs.Inclusions.{Covers, Leaves, word_formed, field_formed, fields_formed, words_formed, redirect_formed, redirects_formed, for_words_formed, clauses_formed, kind_formed, command_formed, KindRules, EnteredRules}
+use Rattle.sh_domain.specs.Inclusions.{word_formed, field_formed, fields_formed, words_formed, redirect_formed, redirects_formed, for_words_formed, clauses_formed, kind_formed, KindRules}
 use Rattle.sh_sound.specs.Going.{around, front, Bodies, WordAt, WordsAt, PatternsAt, RedirectsAt, ForWordsAt, PatternsOf, KindAt, CompoundAt, FrontGood, Good, GoodIn, Stays, ProcessOk, StartOk, StepOk}
 use Rattle.sh_sound.proofs.HoldLemmas.{each_left, each_right, has_nothing, holds_with, covers_at, gain_holds, holds_gain, has_gain, any_holds, both_holds, leaves_lead}
 use Rattle.sh_sound.proofs.ExpansionLemmas.{none_both}

@@ -9,7 +9,7 @@ use Rattle.sh_tree.specs.standard.program.Syntax.{Text}
 use Rattle.sh_runs.specs.standard.runs.Environment.{Environment, Frame, with_variable}
 use Rattle.sh_runs.specs.standard.runs.Answers.{Answer}
 use Rattle.sh_runs.specs.standard.runs.Work.{Work, Items, Links, Pipeline, Negation, If, Then, Test, Again, ForFields, Keeps, Effect, goes, ends}
-use Rattle.sh_runs.specs.standard.runs.Steps.{takes_link, takes_turn, links, branch, test, for_fields, clauses, falls, fall, clause_list, act_on}
+use Rattle.sh_runs.specs.standard.runs.Steps.{takes_link, takes_turn, links, branch, test, for_fields, act_on}
 use Rattle.sh_runs.specs.standard.runs.Steps as steps
 use Rattle.sh_domain.specs.declared.rule.FlowRule.TheVariants.{F2, F3, F6}
 use Rattle.sh_domain.specs.Entries.{Around, alone, in_part, items_after, item_after, links_after, linked, link_seen, list_after, pipeline_after, turns, ends as loop_ends}
@@ -19,7 +19,7 @@ use Rattle.sh_domain.specs.Gains.{named}
 use Rattle.sh_domain.specs.Views.{Certificate, AfterZero, Head, Seen, After, Both, if_zero, if_nonzero, in_any_case, swapped, after_command, at, gaining_names}
 use Rattle.sh_sound.specs.Holding.{Stands, Grows, OneHolds, AfterHolds, Leads}
 use Rattle.sh_domain.specs.Inclusions as i
-use Rattle.sh_domain.specs.Inclusions.{Covers, Leaves}
+use Rattle.sh_domain.specs.Inclusions.{Leaves}
 use Rattle.sh_sound.specs.Going.{around, OfFirst, Began, after_function, Bodies, ItemsAt, LoopAt, FrontGood, Good, GoodIn, Stays, front, ProcessOk, frames_behind, NextOk, FrameStays, StartsOk, StepOk}
 use Rattle.sh_sound.proofs.HoldLemmas.{each_left, each_right, grows_refl, holds_grow, one_left, one_right, covers_at, gain_holds, one_grows, any_holds, both_holds, leads_any, leads_both, leads_each, leaves_lead, leads_trans}
 use Rattle.sh_sound.proofs.ExpansionLemmas.{has_name, assigned_grows, assigned_set}

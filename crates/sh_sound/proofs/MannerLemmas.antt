@@ -11,7 +11,7 @@ use Rattle.sh_runs.specs.standard.runs.Environment.{Environment, Frame, is_one_o
 use Rattle.sh_domain.specs.Entries.{Around}
 use Rattle.sh_domain.specs.Facts.{Facts, NotReached, Known}
 use Rattle.sh_domain.specs.Inclusions as i
-use Rattle.sh_domain.specs.Inclusions.{Covers, MayDrop, behind, KindRules, SimpleRules, UtilityRules, CallRules}
+use Rattle.sh_domain.specs.Inclusions.{Covers, MayDrop, behind, KindRules, SimpleRules}
 use Rattle.sh_domain.specs.Operands.{Names}
 use Rattle.sh_domain.specs.Rules.{losses_by}
 use Rattle.sh_domain.specs.Table.{Manner, Nameless, Utility, Call, is_special, manner_of_name, manner_of_words, manner, is_redirected, assignments_gains, after_utility, after_nameless}

@@ -20,7 +20,7 @@ use Rattle.sh_domain.specs.Facts.{Facts, NotReached, Known, Function, claims}
 use Rattle.sh_domain.specs.Gains.{Gains, named, and_gains, word_gains, redirect_gains, redirects_gains}
 use Rattle.sh_domain.specs.Inclusions.{Leaves, SimpleRules, behind}
 use Rattle.sh_domain.specs.Table as table
-use Rattle.sh_domain.specs.Table.{after_nameless, prefixes, is_special, values_gains, is_redirected, assignments_gains, redirections_gains}
+use Rattle.sh_domain.specs.Table.{after_nameless, prefixes, is_special, values_gains, is_redirected, assignments_gains}
 use Rattle.sh_domain.specs.Views.{Certificate, Seen, Both, in_any_case, if_zero, if_nonzero, after_command, gaining, gaining_names}
 use Rattle.sh_sound.specs.Holding.{Holds, Has, Grows, OneHolds, Entails, Expanded}
 use Rattle.sh_sound.specs.Going.{around, front, unset_before, Bodies, FrontGood, Good, GoodIn, ProcessOk, StepOk}

@@ -10,7 +10,7 @@ use Rattle.sh_runs.specs.standard.runs.Work.{Work, Items, Pipeline, Command, Sha
 use Rattle.sh_domain.specs.declared.rule.FlowRule.{FlowRule}
 use Rattle.sh_domain.specs.declared.rule.FlowRule.TheVariants.{F2, F11, F12}
 use Rattle.sh_domain.specs.Entries as entries
-use Rattle.sh_domain.specs.Entries.{Around, alone, in_part, items_after, item_after, links_after, pipeline_after, parts_after, list_after}
+use Rattle.sh_domain.specs.Entries.{Around, alone, in_part, items_after, item_after, pipeline_after, parts_after}
 use Rattle.sh_domain.specs.Facts.{Facts}
 use Rattle.sh_domain.specs.Gains.{named, job}
 use Rattle.sh_domain.specs.Views.{Certificate, Seen, After, Both, if_zero, in_any_case, swapped, after_command, without_job}

@@ -7,7 +7,7 @@ use Rattle.sh_domain.specs.Entries.{Around}
 use Rattle.sh_domain.specs.Facts.{Facts, NotReached, Known}
 use Rattle.sh_domain.specs.Gains.{Gains, named}
 use Rattle.sh_domain.specs.Inclusions as i
-use Rattle.sh_domain.specs.Inclusions.{Leaves, MayDrop, UtilityRules, behind, surroundings_of}
+use Rattle.sh_domain.specs.Inclusions.{MayDrop}
 use Rattle.sh_domain.specs.Operands.{Names, total}
 use Rattle.sh_domain.specs.Views.{Certificate, Count, Shift, Seen, After, stepped, where_known, step}
 use Rattle.sh_sound.specs.Holding.{Holds, Has, OneHolds, AfterHolds}

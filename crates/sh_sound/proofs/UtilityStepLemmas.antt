@@ -16,10 +16,10 @@ use Rattle.sh_domain.specs.Entries.{Around}
 use Rattle.sh_domain.specs.Facts.{Facts}
 use Rattle.sh_domain.specs.Gains.{no_gains, and_gains, word_gains}
 use Rattle.sh_domain.specs.Inclusions as i
-use Rattle.sh_domain.specs.Inclusions.{MayDrop, SimpleRules, behind}
+use Rattle.sh_domain.specs.Inclusions.{SimpleRules, behind}
 use Rattle.sh_domain.specs.Rules.{losses_by}
 use Rattle.sh_domain.specs.Table as table
-use Rattle.sh_domain.specs.Table.{is_redirected, prefixes, assignments_gains, redirections_gains}
+use Rattle.sh_domain.specs.Table.{is_redirected, assignments_gains, redirections_gains}
 use Rattle.sh_domain.specs.Views.{Certificate, Seen, Both, in_any_case, after_command}
 use Rattle.sh_sound.specs.Fields.{Fields}
 use Rattle.sh_sound.specs.Holding.{Grows, OneHolds, Expanded}

@@ -29,8 +29,8 @@ use Rattle.sh_domain.specs.Inclusions.{Each}
 use Rattle.sh_domain.specs.Names.{number_of}
 use Rattle.sh_domain.specs.Operands.{first_number, return_status, total}
 use Rattle.sh_domain.specs.Rules as r
-use Rattle.sh_domain.specs.Rules.{Constraint, Within, Counted, bound, bounds, leaves, defined_by, functions_of, script_bounds}
-use Rattle.sh_domain.specs.Table.{Manner, Nameless, Utility, is_special, manner, manner_of_name, behind_words, operands, prefixes, is_redirected}
+use Rattle.sh_domain.specs.Rules.{Constraint, Within, Counted, bound, bounds, leaves, defined_by, script_bounds}
+use Rattle.sh_domain.specs.Table.{Utility, is_special, manner_of_name, behind_words, operands, prefixes, is_redirected}
 use Rattle.sh_domain.specs.Table as table
 use Rattle.sh_domain.specs.Views.{Slot, Before, AfterZero, AfterNonzero, Head, Entry, ReturnsZero, ReturnsNonzero, Seen, After, Both, Loss, View, at, gaining, gaining_names, if_nonzero, if_zero, in_any_case, stepped, Call, Count, Define}
 use Rattle.sh_domain.proofs.KnowledgeLemmas.{has_number, stands_there}

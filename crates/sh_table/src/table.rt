@@ -307,8 +307,8 @@ impl<'s> CallTable<'s> {
         self.functions.place(name)
     }
 
-    /// The place of the function whose name is at a span, if the script has one. Where a function
-    /// is defined, the length of its name takes no time.
+    /// The place of the function whose name is at a span, if the script has one (XCU 2.9.5). If a
+    /// definition has its name there, the length of the name takes no time.
     pub fn function_at(&self, name: Span) -> Option<usize>
         ensures { result ≡ position_from (λ other. bytes_eq other (text_of self.now.script name)) 0 self.now.functions.names }
     {
@@ -316,14 +316,8 @@ impl<'s> CallTable<'s> {
             .named
             .partition_point(|named| named.name.start < name.start);
         match self.named.get(at) {
-            Some(named) => {
-                if named.name == name {
-                    named.place
-                } else {
-                    self.function_place(name.text(self.script))
-                }
-            }
-            None => self.function_place(name.text(self.script)),
+            Some(named) if named.name == name => named.place,
+            _ => self.function_place(name.text(self.script)),
         }
     }
 

@@ -10,14 +10,14 @@ use Rattle.sh_tree.proofs.ProgramRules as rules
 use Rattle.sh_domain.specs.declared.rule.FlowRule.{FlowRule}
 use Rattle.sh_domain.specs.declared.rule.FlowRule.TheVariants.{F10}
 use Rattle.sh_domain.specs.Entries as e
-use Rattle.sh_domain.specs.Entries.{Around, Entered, behind_redirects}
+use Rattle.sh_domain.specs.Entries.{Around, behind_redirects}
 use Rattle.sh_domain.specs.Gains.{redirect_gains, redirects_gains}
 use Rattle.sh_domain.specs.Inclusions.{Each}
 use Rattle.sh_domain.specs.Rules as r
 use Rattle.sh_domain.specs.Rules.{bound}
 use Rattle.sh_domain.specs.Table.{is_redirected}
 use Rattle.sh_domain.specs.Views as views
-use Rattle.sh_domain.specs.Views.{Before, gaining}
+use Rattle.sh_domain.specs.Views.{Before}
 use Rattle.sh_counts.specs.declared.equations.Change.TheVariants.{Raise}
 use Rattle.sh_counts.specs.declared.equations.Count.{Count}
 use Rattle.sh_counts.specs.declared.equations.Equations.{Equations}

@@ -34,9 +34,9 @@ use Rattle.sh_domain.specs.Order.{IsWithin, seen_facts}
 use Rattle.sh_domain.specs.Rules as r
 use Rattle.sh_domain.specs.Rules.{Constraint, bound, functions_of, leaves, simple_bounds}
 use Rattle.sh_domain.specs.Table as table
-use Rattle.sh_domain.specs.Table.{Manner, Nameless, Utility, assignments_gains, behind_words, is_redirected, manner, manner_of_name, manner_of_words, operands, prefixes, redirections_gains}
+use Rattle.sh_domain.specs.Table.{Nameless, Utility, assignments_gains, behind_words, is_redirected, manner, manner_of_name, manner_of_words, operands, prefixes, redirections_gains}
 use Rattle.sh_domain.specs.Views as views
-use Rattle.sh_domain.specs.Views.{At, Before, Certificate, Count, Gain, Seen, Shift, Slot, Step, View, counted_by, extended, stepped, gaining, most_fields}
+use Rattle.sh_domain.specs.Views.{At, Before, Count, Gain, Seen, Slot, Step, View, counted_by, extended, stepped, gaining, most_fields}
 use Rattle.sh_domain.proofs.EachLemmas.{each_parts}
 use Rattle.sh_counts.specs.declared.equations.Change.{Change}
 use Rattle.sh_counts.specs.declared.equations.Change.TheVariants as change

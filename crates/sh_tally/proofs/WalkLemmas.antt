@@ -25,7 +25,7 @@ use Rattle.sh_domain.specs.Order.{IsWithin, seen_facts}
 use Rattle.sh_domain.specs.Rules as r
 use Rattle.sh_domain.specs.Rules.{Constraint, bound, bounds, functions_of, losses, script_bounds}
 use Rattle.sh_domain.specs.Views as views
-use Rattle.sh_domain.specs.Views.{At, Before, Certificate, Seen, Slot, Step, View, view_facts}
+use Rattle.sh_domain.specs.Views.{At, Before, Certificate, Seen, Slot, View, view_facts}
 use Rattle.sh_domain.proofs.EachLemmas.{each_inside, each_none, each_parts}
 use Rattle.sh_domain.proofs.MonotoneLemmas.{told_none}
 use Rattle.sh_domain.proofs.OrderLemmas.{meet_greatest, within_nowhere, within_test}

@@ -1,12 +1,11 @@
 -- Lists of the commands that call each function.
-use Rattle.std.proofs.Common.{◌≡◌, ℕ, suc, ◌+◌, ◌-◌, ◌<◌, ◌≤◌, Bool, true, false, List, [], ◌∷◌, ◌++◌, length, map, get_or, set, replicate, refl, sym, ap, ◌∙◌, arith, eqb, eq-eqb, ⊎_elim, Some, None, append-nil, get_or-set_same, get_or-set_other, take}
+use Rattle.std.proofs.Common.{◌≡◌, ℕ, suc, ◌+◌, ◌-◌, ◌<◌, ◌≤◌, Bool, true, false, List, [], ◌∷◌, ◌++◌, length, map, get_or, set, refl, sym, ap, ◌∙◌, arith, eqb, eq-eqb, ⊎_elim, Some, None, append-nil, get_or-set_same, get_or-set_other}
 use Rattle.std.specs.List.{filter, position_from}
 use Rattle.std.specs.Prelude.{cond}
 use Rattle.std.specs.Global.{Vec}
 use Rattle.std.specs.Str.{bytes_eq}
 use Rattle.std.proofs.lemmas.Bool.{ne_eqb, cases_eq}
-use Rattle.std.proofs.lemmas.List.{get_or-map, get_or-replicate, length-replicate, map-set, map-append, take_more}
-use Rattle.std.proofs.lemmas.List.Elements.{filter-append}
+use Rattle.std.proofs.lemmas.List.{get_or-map, map-set}
 use Rattle.sh_runs.specs.standard.Kinds.{kind_of, is_special}
 use Rattle.sh_runs.specs.Calls.{Table, callee_at, called}
 use Rattle.sh_runs.specs.Profile.{Static}

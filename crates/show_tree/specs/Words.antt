@@ -1,4 +1,4 @@
--- A word that is read up to commands, again and again.
+-- A word (XCU 2.3) that is read up to the commands of a substitution (XCU 2.6.3), and then on.
 use Rattle.std.specs.Prelude.{◌≡◌, ◌≤◌, ℕ, List, length}
 use Rattle.sh_words.specs.declared.builder.WordBuilder.{WordBuilder}
 use Rattle.sh_words.specs.declared.mode.Mode.{Mode}

@@ -1,5 +1,4 @@
 use Rattle.std.proofs.Common.{◌≡◌, None, Some, rules, sym, ap, ◌∙◌, arith}
-use Rattle.sh_domain.specs.declared.certificate.Facts.TheVariants as value_kind
 use Rattle.sh_drafts.proofs.LowerLemmas.{args_lowered, args_work, nothing_more, nowhere_more, no_more}
 use Rattle.sh_drafts.proofs.lower.lower_args.Goals as goal
 

@@ -8,7 +8,6 @@ use Rattle.sh_tree.specs.standard.program.Trees.{script_of}
 use Rattle.sh_tree.proofs.ProgramRules as program
 use Rattle.sh_domain.specs.declared.rule.FlowRule.TheVariants.{F6, F9}
 use Rattle.sh_domain.specs.Entries as entries
-use Rattle.sh_domain.specs.Entries.{Around}
 use Rattle.sh_domain.specs.Facts.{NotReached, meet}
 use Rattle.sh_domain.specs.Gains.{word_gains}
 use Rattle.sh_domain.specs.Knowledge.{knowledge_facts}

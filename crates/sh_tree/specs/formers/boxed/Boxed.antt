@@ -1,4 +1,4 @@
--- `Boxed` as a type that may hold the type that holds it.
+-- `Boxed` as a type that may hold the type that holds it: shset's own; the standard has none.
 use mathlib.Core.Path.{refl}
 use mathlib.Core.Former.{Former, this, const, pair, via}
 use base.Stored.{gnil}
