@@ -39,8 +39,8 @@ enum Rank {
 /// Which units wait, each at most once, and in which order they are next.
 ///
 /// The first pass goes depth first along calls that are reached. Its ends are the order of the
-/// bodies until they are put in order by all calls. Bodies that wait later are taken upwards in
-/// this order, then downwards.
+/// bodies until they are put in order by all calls. Then bodies in which a command waits are taken
+/// upwards in this order until there are none, and bodies that are entered with less downwards.
 #[derive(Drop)]
 pub struct Units {
     // By the numbers of definitions, and by 0 the commands outside.
@@ -51,8 +51,10 @@ pub struct Units {
     steps: Vec<Step>,
     ranks: Vec<Rank>,
     order: Vec<u32>,
-    // The places in the order of those that wait.
+    // The places in the order of the bodies in which a command waits.
     ranked: Flags,
+    // The places in the order of the bodies that are entered with less.
+    entered: Flags,
     cursor: u32,
     is_rising: bool,
     // No call goes again over a body whose place is below this.
@@ -81,6 +83,7 @@ impl Units {
             ranks: vec![in alloc; Rank::Unseen; count]?,
             order: Vec::new(alloc),
             ranked: Flags::none(alloc, count)?,
+            entered: Flags::none(alloc, count)?,
             cursor: 0,
             is_rising: true,
             once: 0,
@@ -97,6 +100,7 @@ impl Units {
         add_each(&mut self.waiting, self.order.as_slice());
         self.waiting.add(0);
         add_below(&mut self.ranked, self.order.len());
+        add_below(&mut self.entered, self.order.len());
     }
 
     fn rank(&self, definition: u32) -> Rank {
@@ -116,7 +120,7 @@ impl Units {
         }
     }
 
-    /// Has a unit wait.
+    /// Has a unit wait, since a command in it does.
     ///
     /// # Errors
     ///
@@ -140,14 +144,40 @@ impl Units {
         ensures limit { limit self.new ≡ limit self.old }
         ensures unseen { self.new.unseen ≡ self.old.unseen }
     {
+        if let Rank::At(rank) = self.rank(definition) {
+            self.ranked.add(rank);
+        }
+        self.add_body(definition)
+    }
+
+    /// Has a body wait, since the function is entered with less.
+    ///
+    /// # Errors
+    ///
+    /// If a growth was refused. The body waits then too.
+    pub fn enter(&mut self, definition: u32) -> Result<(), AllocError>
+        ensures waiting { (k : ℕ) → does_wait self.new k ≡ ((k == definition && nat_lt definition (limit self.old)) || does_wait self.old k) }
+        ensures limit { limit self.new ≡ limit self.old }
+        ensures unseen { self.new.unseen ≡ self.old.unseen }
+    {
+        if let Rank::At(rank) = self.rank(definition) {
+            self.entered.add(rank);
+        }
+        self.add_body(definition)
+    }
+
+    // Has a body wait. If no pass over it has begun, it is next.
+    fn add_body(&mut self, definition: u32) -> Result<(), AllocError>
+        ensures waiting { (k : ℕ) → does_wait self.new k ≡ ((k == definition && nat_lt definition (limit self.old)) || does_wait self.old k) }
+        ensures limit { limit self.new ≡ limit self.old }
+        ensures unseen { self.new.unseen ≡ self.old.unseen }
+    {
         if self.waiting.has(definition) {
             return Ok(());
         }
         self.waiting.add(definition);
-        match self.rank(definition) {
-            Rank::Unseen => self.steps.push(Step::Begin(definition))?,
-            Rank::Begun => (),
-            Rank::At(rank) => self.ranked.add(rank),
+        if self.rank(definition) == Rank::Unseen {
+            self.steps.push(Step::Begin(definition))?;
         }
         Ok(())
     }
@@ -190,6 +220,7 @@ impl Units {
             Rank::Begun => (),
             Rank::At(rank) => {
                 self.ranked.take(rank);
+                self.entered.take(rank);
             }
         }
         Ok(())
@@ -226,6 +257,7 @@ impl Units {
         self.set_rank(definition, Rank::At(rank));
         if self.waiting.has(definition) {
             self.ranked.add(rank);
+            self.entered.add(rank);
         }
         Ok(())
     }
@@ -255,6 +287,7 @@ impl Units {
     {
         self.order.clear();
         self.ranked = Flags::none(alloc, self.ranks.len())?;
+        self.entered = Flags::none(alloc, self.ranks.len())?;
         for definition in order {
             if matches!(self.rank(*definition), Rank::At(_)) {
                 self.place(*definition)?;
@@ -285,12 +318,15 @@ impl Units {
         Ok(())
     }
 
-    // The place in the order of the next body that waits, in the direction of the last one.
+    // The place in the order of the next body in the direction of the last one, or else the first
+    // one there.
     fn ahead(&self) -> Option<u32> {
         if self.is_rising {
-            self.ranked.next(self.cursor, u32::MAX)
+            let next = self.ranked.next(self.cursor, u32::MAX);
+            next.or(self.ranked.next(0, u32::MAX))
         } else {
-            self.ranked.last(self.cursor)
+            let last = self.entered.last(self.cursor);
+            last.or(self.entered.last(u32::MAX))
         }
     }
 

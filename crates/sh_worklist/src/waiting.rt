@@ -160,7 +160,7 @@ impl Waiting {
         wait_each(&mut self.commands, &mut self.units, callers)
     }
 
-    /// Has each of these definitions wait, as units.
+    /// Has each of these definitions wait, since their function is entered with less.
     ///
     /// # Errors
     ///
@@ -170,7 +170,7 @@ impl Waiting {
         ensures bodies { OnOk result ((k : ℕ) → bodies.does_wait self.new.units k ≡ ((has_number k definitions.now && nat_lt k (bodies.limit self.old.units)) || bodies.does_wait self.old.units k)) }
     {
         for number in definitions {
-            self.units.wait(Unit::Body(*number))?;
+            self.units.enter(*number)?;
         }
         Ok(())
     }
