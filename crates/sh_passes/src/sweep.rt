@@ -28,7 +28,7 @@ use sh_drafts::{Draft, Subject, look};
 use sh_rules::{Around, Course, alone, begun, in_function, meet};
 use sh_sweeps::known::{entry_of, head_of, pass_all, pass_on, process_of, started_in, turn_of};
 use sh_sweeps::nowhere::{inside_if, leave_all, leave_item, pipe_if};
-use sh_sweeps::waits::{Member, next_place, place_of_news};
+use sh_sweeps::waits::{Member, do_lists_wait, next_place, place_of_news};
 use sh_sweeps::{News, carry_over, lower_before};
 use sh_tree::{AndOr, Command, Item, Kind, LoopKind, Pipe, Script, Span};
 use sh_worklist::{Inside, Look};
@@ -447,7 +447,8 @@ fn sweep_held(
     sweep_inside(subject, draft, levels, around, command, is_new)
 }
 
-// Lowers the certificate in a compound command, and after it if something is new.
+// Lowers the certificate in a compound command, and after it if something is new. Its words leave
+// nothing else than before.
 #[cycle(sweep)]
 fn sweep_compound(
     subject: &Subject<'_>,
@@ -464,6 +465,9 @@ fn sweep_compound(
     requires placed { IsCommand subject.now by (walks.around subject.now.script.now around.now) (knowledge_facts subject.now.names.now known.now) command.now }
     ensures swept { IfOk result (λ unit. IsSwept subject.now draft.old.certificate draft.new.certificate draft.new.probe.count) }
 {
+    if !is_new && !do_lists_wait(&draft.waiting, &command.kind) {
+        return sweep_inside(subject, draft, levels, around, command, is_new);
+    }
     let before = draft.lowered;
     sweep_rounds(subject, draft, levels, by, around, known, command, is_new)?;
     sweep_again(subject, draft, levels, around, command, outer)?;

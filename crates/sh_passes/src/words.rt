@@ -22,8 +22,8 @@ use sh_sweeps::known::{
     behind_action, behind_assigned, behind_operands, behind_word, operand_of, started_in,
 };
 use sh_sweeps::nowhere::before_if;
-use sh_sweeps::texts::{goes_by_one, have_documents, hold_documents, place_of_text};
-use sh_sweeps::waits::{does_list_wait, may_wait_in, place_of_news};
+use sh_sweeps::texts::{goes_by_one, have_documents, hold_documents, may_wait_in, place_of_text};
+use sh_sweeps::waits::does_list_wait;
 use sh_tree::{
     Action, Binary, Element, Expr, Items, ParameterOperator, Part, Redirect, Script,
     Subject as Parameter, Target, Word,
@@ -277,7 +277,7 @@ pub fn pass_word(
     ensures swept { IfOk result (λ unit. IsSwept subject.now draft.old.certificate draft.new.certificate draft.new.probe.count) }
     ensures gained { IfOk result (λ unit. Gained subject.now (word_gains (parts_from subject.now.script.now word.now.parts)) (knowledge_facts subject.now.names.now known.old) (knowledge_facts subject.now.names.now known.new)) }
 {
-    if !known.is_reached() && !may_wait_in(&draft.waiting, word) {
+    if !known.is_reached() && !may_wait_in(subject, &draft.waiting, word) {
         return Ok(());
     }
     sweep_word(subject, draft, levels, &*known, word)?;
@@ -297,7 +297,7 @@ fn sweep_word(
     requires placed { IsWord subject.now (knowledge_facts subject.now.names.now known.now) (parts_from subject.now.script.now word.now.parts) }
     ensures swept { IfOk result (λ unit. IsSwept subject.now draft.old.certificate draft.new.certificate draft.new.probe.count) }
 {
-    if !is_in_word(word) || (!known.is_reached() && !may_wait_in(&draft.waiting, word)) {
+    if !is_in_word(word) || (!known.is_reached() && !may_wait_in(subject, &draft.waiting, word)) {
         return Ok(());
     }
     let mut inside = *known;
@@ -320,7 +320,7 @@ fn pass_parts(
     let mut place = 0;
     while place < parts.len() {
         let is_known = known.is_reached();
-        let next = place_of_news(&draft.waiting, is_known, parts, place);
+        let next = place_of_text(subject, &draft.waiting, is_known, parts, place);
         if next == parts.len() {
             return Ok(());
         }
@@ -580,8 +580,16 @@ fn pass_operands(
     ensures swept { IfOk result (λ unit. IsSwept subject.now draft.old.certificate draft.new.certificate draft.new.probe.count) }
     ensures gained { IfOk result (λ unit. Gained subject.now (operands_gains (operands_from subject.now.script.now rest.now)) (knowledge_facts subject.now.names.now known.old) (knowledge_facts subject.now.names.now known.new)) }
 {
-    for link in rest {
+    let mut place = 0;
+    while place < rest.len() {
+        let is_known = known.is_reached();
+        let next = place_of_text(subject, &draft.waiting, is_known, rest, place);
+        if next == rest.len() {
+            return Ok(());
+        }
+        let link = &rest[next];
         pass_expression(subject, draft, levels, known, &link.1)?;
+        place = next + 1;
     }
     Ok(())
 }

@@ -426,6 +426,17 @@ module _ (s : Subject) where
     unfolding part_gains operands_from
     along_operands q k k' all x xs behind here = along_next q k k' all (expanded_gains (trees.expression_of s.script.now x.1)) (operands_gains (operands_from s.script.now xs)) behind here
 
+    -- as `word_left`, of operands
+    pub operands_left : (known : Knowledge) (is_known : Bool) (all : Gains) (first : Facts) (xs : List (Binary × Expr)) (i j : ℕ) → is_known ≡ not (claims (knowledge_facts s.names.now known) Nowhere) → i ≤ j → (is_known ≡ true → j ≡ i)
+        → IsIn s (λ q. e.operands_entered q (operands_from s.script.now (drop i xs))) (knowledge_facts s.names.now known) × ((q : Seen) → Knows s q first → Along q (knowledge_facts s.names.now known) all (operands_gains (operands_from s.script.now (drop i xs))))
+        → IsIn s (λ q. e.operands_entered q (operands_from s.script.now (drop j xs))) (knowledge_facts s.names.now known) × ((q : Seen) → Knows s q first → Along q (knowledge_facts s.names.now known) all (operands_gains (operands_from s.script.now (drop j xs))))
+    operands_left known is_known all first xs i j reached before same =
+        let k = knowledge_facts s.names.now known in
+        left_at (λ ys. IsIn s (λ q. e.operands_entered q (operands_from s.script.now ys)) k × ((q : Seen) → Knows s q first → Along q k all (operands_gains (operands_from s.script.now ys)))) is_known xs i j before same
+        (λ none x rest here.
+        let nothing : Gained s (expanded_gains (trees.expression_of s.script.now x.1)) k k = idle k (unreached k is_known reached none) _ in
+        (operands_next k k x rest nothing here.0, λ q w. along_operands q k k all x rest nothing (here.1 q w)))
+
     pub along_no_operands : (q : Seen) (k : Facts) (all : Gains) → Along q k all (operands_gains (operands_from s.script.now [])) → Knows s (gaining all q) k
     unfolding part_gains operands_from
     along_no_operands q k all here = along_last q k all here

@@ -46,9 +46,9 @@ fn fitting_index(index: Option<usize>) -> Option<u16>
     fitting(index?)
 }
 
-// The place that is next: this one, if it is one, unless it is passed over.
+// The other place that is sought: this one, if it is one, unless it is passed over.
 #[tactic(auto, unfolding(sh_drafts::specs::Gathered::next_of))]
-fn next_place(is_passed: bool, spot: Option<Spot>, next: Place) -> Place
+fn other_place(is_passed: bool, spot: Option<Spot>, next: Place) -> Place
     ensures { result ≡ next_of is_passed (option_and_then fitting_place (option_map place_at spot)) next }
 {
     if is_passed {
@@ -57,9 +57,9 @@ fn next_place(is_passed: bool, spot: Option<Spot>, next: Place) -> Place
     fitting_place(spot).unwrap_or(next)
 }
 
-// The index of the function that is next: this one, if it is one, unless it is passed over.
+// The index of the other function that is sought: this one, if it is one, unless it is passed over.
 #[tactic(auto, unfolding(sh_drafts::specs::Gathered::next_of))]
-fn next_function(is_passed: bool, index: Option<usize>, next: u16) -> u16
+fn other_function(is_passed: bool, index: Option<usize>, next: u16) -> u16
     ensures { result ≡ next_of is_passed (option_and_then fitting index) next }
 {
     if is_passed {
@@ -124,7 +124,7 @@ impl Gather {
     {
         let is_here = is_place(spot, self.target.place);
         self.kept &= is_kept;
-        self.next.place = next_place(is_kept | is_here, spot, self.next.place);
+        self.next.place = other_place(is_kept | is_here, spot, self.next.place);
         is_here
     }
 
@@ -137,7 +137,7 @@ impl Gather {
     {
         let is_here = is_index(index, self.target.function);
         self.kept &= is_kept;
-        self.next.function = next_function(is_kept | is_here, index, self.next.function);
+        self.next.function = other_function(is_kept | is_here, index, self.next.function);
         is_here
     }
 

@@ -276,6 +276,9 @@ pub fn behind_assigned(
     ensures { (q : Seen) → Knows subject.now q (knowledge_facts subject.now.names.now known.now)
         → Knows subject.now (gaining (named (assigned_in (trees.expression_of subject.now.script.now expression.now))) q) (knowledge_facts subject.now.names.now result) }
 {
+    if !known.is_reached() {
+        return Knowledge::NotReached;
+    }
     let claims = claims_of(subject, certificate);
     let mut behind = *known;
     gain_assigned(&claims, expression, &mut behind);

@@ -1,19 +1,23 @@
-//! Where a sweep goes on among the words of a command: at the next in which a command may wait, by
-//! where that begins in the script. All of this is hints.
+//! Where a sweep goes on among the words of a command, and in a word: at the next in which a command
+//! may wait, by where that begins in the script. All of this is hints.
 ghost use Rattle.std.specs.Prelude.{◌≡◌, ◌≤◌, ◌<◌, List, true, false, length};
 ghost use Rattle.sh_tree.specs.standard.program.Syntax.{Text as Bytes};
 ghost use Rattle.sh_domain.specs.Facts.{NotReached};
 ghost use Rattle.sh_domain.specs.Knowledge.{knowledge_facts};
 
+use crate::waits::may_wait_in_word;
 use sh_domain::Knowledge;
 use sh_drafts::Subject;
-use sh_tree::{Element, Redirect, Target, Word};
+use sh_tree::{Binary, Element, Expr, Part, Redirect, Target, Word};
 use sh_worklist::Waiting;
 
 // So few are looked at one by one.
 const FEW: usize = 8;
 
-/// A word, or what has one. Each begins after the one before it, except in a here-document.
+// The first operands of an expression are no more levels in than this.
+const LEVELS: u32 = 2048;
+
+/// A word, what has one, or a piece of one. Each begins after the one before it, except in a here-document.
 pub trait Text {
     /// Where it begins in the script.
     fn start(&self) -> u32;
@@ -39,6 +43,45 @@ impl Text for Element {
             Element::Redirection(redirect) => redirect.at,
         }
     }
+}
+
+impl Text for Part {
+    fn start(&self) -> u32 {
+        match self {
+            Part::Plain(span)
+            | Part::Escaped(span)
+            | Part::Single(_, span)
+            | Part::Double(span, _)
+            | Part::Arith(span, _)
+            | Part::Command(_, span, _)
+            | Part::Tilde(span)
+            | Part::Joined(span) => span.start,
+            Part::Param(param) => param.span.start,
+        }
+    }
+}
+
+impl Text for (Binary, Expr) {
+    fn start(&self) -> u32 {
+        start_of(&self.1)
+    }
+}
+
+// Where the first operand of an expression begins.
+fn start_of(expression: &Expr) -> u32 {
+    let mut first = expression;
+    for _level in 0..LEVELS {
+        first = match first {
+            Expr::Constant(span) | Expr::Variable(span) => return span.start,
+            Expr::Assign { name, .. } => return name.start,
+            Expr::Expansion(part) => return part.start(),
+            Expr::Parenthesis(inner) => inner.get(),
+            Expr::Unary { operand, .. } => operand.get(),
+            Expr::Chain { first, .. } => first.get(),
+            Expr::Choice { condition, .. } => condition.get(),
+        };
+    }
+    0
 }
 
 fn is_document(redirect: &Redirect) -> bool {
@@ -115,4 +158,14 @@ pub fn place_of_text<T: Text>(
         Some(number) => place_at(texts, from, offset_of(subject, number)),
         None => texts.len(),
     }
+}
+
+/// Whether a command may wait in a word.
+pub fn may_wait_in(subject: &Subject<'_>, waiting: &Waiting, word: &Word) -> bool {
+    if word.parts.as_slice().len() <= FEW {
+        return may_wait_in_word(waiting, word);
+    }
+    let first = number_at(subject, word.span.start);
+    let behind = number_at(subject, word.span.end);
+    waiting.next(first, behind.saturating_sub(1)).is_some()
 }

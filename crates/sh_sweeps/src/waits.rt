@@ -3,7 +3,9 @@
 ghost use Rattle.std.specs.Prelude.{◌≡◌, ◌≤◌, ◌<◌, true, length, IfSome};
 
 use sh_drafts::inner::is_in_word;
-use sh_tree::{Branch, Clause, Command, Item, Link, ParameterOperator, Part, Pipe, Script, Word};
+use sh_tree::{
+    Branch, Clause, Command, Item, Kind, Link, ParameterOperator, Part, Pipe, Script, Word,
+};
 use sh_worklist::Waiting;
 
 // So many members are looked at one by one.
@@ -87,26 +89,7 @@ impl Member for Clause {
     fn waits(&self, waiting: &Waiting) -> bool {
         let patterns = self.patterns.as_slice();
         does_list_wait(waiting, &self.body)
-            || patterns.iter().any(|word| may_wait_in(waiting, word))
-    }
-}
-
-impl Member for Part {
-    fn number(&self) -> Option<u32> {
-        match self {
-            Part::Command(_, _, list) => first_number(list),
-            _ => None,
-        }
-    }
-
-    fn waits(&self, waiting: &Waiting) -> bool {
-        match self {
-            Part::Double(_, parts) => {
-                let mut parts = parts.as_slice().iter();
-                parts.any(|part| may_wait_in_part(waiting, part))
-            }
-            _ => may_wait_in_part(waiting, self),
-        }
+            || patterns.iter().any(|word| may_wait_in_word(waiting, word))
     }
 }
 
@@ -125,6 +108,31 @@ pub fn does_list_wait(waiting: &Waiting, list: &Script) -> bool {
     }
 }
 
+/// Whether a command may wait in the lists of a compound command, and not in its words alone.
+pub fn do_lists_wait(waiting: &Waiting, kind: &Kind) -> bool {
+    match kind {
+        Kind::Group(list) | Kind::Subshell(list) => does_list_wait(waiting, list),
+        Kind::Cond {
+            branches,
+            otherwise: None,
+        } => next_place(waiting, branches.as_slice(), 0).is_some(),
+        Kind::Cond {
+            branches,
+            otherwise: Some(list),
+        } => {
+            next_place(waiting, branches.as_slice(), 0).is_some() || does_list_wait(waiting, list)
+        }
+        Kind::Loop {
+            condition,
+            body,
+            ..
+        } => does_list_wait(waiting, condition) || does_list_wait(waiting, body),
+        Kind::For { body, .. } => does_list_wait(waiting, body),
+        Kind::Branches { clauses, .. } => next_place(waiting, clauses.as_slice(), 0).is_some(),
+        Kind::Simple(_) | Kind::Define { .. } => true,
+    }
+}
+
 // Whether a command may wait in a part of a word that is not in double quotes.
 fn may_wait_in_part(waiting: &Waiting, part: &Part) -> bool {
     match part {
@@ -138,10 +146,20 @@ fn may_wait_in_part(waiting: &Waiting, part: &Part) -> bool {
     }
 }
 
-/// Whether a command may wait in a word.
-pub fn may_wait_in(waiting: &Waiting, word: &Word) -> bool {
+// Whether a command may wait in one of these.
+fn may_wait_in_parts(waiting: &Waiting, parts: &[Part]) -> bool {
+    let mut parts = parts.iter();
+    parts.any(|part| may_wait_in_part(waiting, part))
+}
+
+/// Whether a command may wait in a word, each part of which is looked at.
+pub fn may_wait_in_word(waiting: &Waiting, word: &Word) -> bool {
     let mut parts = word.parts.as_slice().iter();
-    parts.any(|part| part.waits(waiting)) && is_in_word(word)
+    let may_wait = parts.any(|part| match part {
+        Part::Double(_, parts) => may_wait_in_parts(waiting, parts.as_slice()),
+        _ => may_wait_in_part(waiting, part),
+    });
+    may_wait && is_in_word(word)
 }
 
 // The place from a place on of the first member that has a number, or their count.

@@ -15,7 +15,7 @@ use Rattle.sh_tree.proofs.ProgramRules as program
 use Rattle.sh_domain.specs.declared.rule.FlowRule.TheVariants.{F7, F8, F10, F11, F12, F13}
 use Rattle.sh_domain.specs.Entries as entries
 use Rattle.sh_domain.specs.Entries.{Around}
-use Rattle.sh_domain.specs.Facts.{Facts, meet}
+use Rattle.sh_domain.specs.Facts.{Facts}
 use Rattle.sh_domain.specs.Knowledge.{knowledge_facts}
 use Rattle.sh_domain.specs.Table.{behind_words}
 use Rattle.sh_domain.specs.Views.{Before, Both, Head, Seen, at, without_job}
@@ -544,14 +544,17 @@ words::pass_chain-pass_operands-requires = words.pass_chain-pass_operands-requir
 pub words::pass_chain-returns : goal.words::pass_chain-returns
 words::pass_chain-returns = words.pass_chain-returns
 
-pub words::pass_operands-loop-link-init : goal.words::pass_operands-loop-link-init
-words::pass_operands-loop-link-init = words.pass_operands-loop-link-init
+pub words::pass_operands-loop-place-init : goal.words::pass_operands-loop-place-init
+words::pass_operands-loop-place-init = words.pass_operands-loop-place-init
 
 pub words::pass_operands-pass_expression-requires : goal.words::pass_operands-pass_expression-requires
 words::pass_operands-pass_expression-requires = words.pass_operands-pass_expression-requires
 
-pub words::pass_operands-loop-link-preserved : goal.words::pass_operands-loop-link-preserved
-words::pass_operands-loop-link-preserved = words.pass_operands-loop-link-preserved
+pub words::pass_operands-loop-place-preserved : goal.words::pass_operands-loop-place-preserved
+words::pass_operands-loop-place-preserved = words.pass_operands-loop-place-preserved
+
+pub words::pass_operands-returns-then-next-rest-clause-gained : goal.words::pass_operands-returns-then-next-rest-clause-gained
+words::pass_operands-returns-then-next-rest-clause-gained = words.pass_operands-returns-then-next-rest-clause-gained
 
 pub words::pass_operands-returns-clause-gained : goal.words::pass_operands-returns-clause-gained
 words::pass_operands-returns-clause-gained = words.pass_operands-returns-clause-gained
@@ -679,6 +682,13 @@ pub sweep::sweep_simple-returns : goal.sweep::sweep_simple-returns
 sweep::sweep_simple-returns t c =
     let s = c.args.subject.now in
     record { swept = swept_more s _ _ _ _ _ (swept_more s _ _ _ _ _ (swept_more s _ _ _ _ _ c.in_ok-sweep_held.ensures.swept c.in_ok-lower_behind.ensures.swept) c.in_ok-sweep_called.ensures.swept) c.in_ok-lower_behind-2.ensures.swept }
+
+pub sweep::sweep_compound-sweep_inside-requires : goal.sweep::sweep_compound-sweep_inside-requires
+sweep::sweep_compound-sweep_inside-requires t c =
+    let s = c.args.subject.now in
+    let y = walks.around s.script.now c.args.around.now in
+    let placed : IsInside s y c.args.command.now = inside_placed s c.args.by y (knowledge_facts s.names.now c.args.known.now) c.args.command.now c.requires.placed in
+    search std_rules
 
 pub sweep::sweep_compound-sweep_again-requires : goal.sweep::sweep_compound-sweep_again-requires
 sweep::sweep_compound-sweep_again-requires t c =

@@ -110,12 +110,15 @@ invariant-words::pass_parts-loop-place l = record {
 abbrev pub decreases-words::pass_parts-loop-place : goal.decreases-words::pass_parts-loop-place
 decreases-words::pass_parts-loop-place l = length l.parts - l.place
 
-abbrev pub invariant-words::pass_operands-loop-link : goal.invariant-words::pass_operands-loop-link
-invariant-words::pass_operands-loop-link l = record {
+abbrev pub invariant-words::pass_operands-loop-place : goal.invariant-words::pass_operands-loop-place
+invariant-words::pass_operands-loop-place l = record {
   swept : IsSwept l.subject l.initial.draft.certificate l.draft.certificate l.draft.probe.count;
-  placed : IsIn l.subject (λ q. operands_entered q (operands_from l.subject.script.now (drop l.link-index l.rest))) (knowledge_facts l.subject.names.now l.known);
-  along : (q : Seen) → Knows l.subject q (knowledge_facts l.subject.names.now l.initial.known) → Along l.subject q (knowledge_facts l.subject.names.now l.known) (operands_gains (operands_from l.subject.script.now l.rest)) (operands_gains (operands_from l.subject.script.now (drop l.link-index l.rest)));
+  placed : IsIn l.subject (λ q. operands_entered q (operands_from l.subject.script.now (drop l.place l.rest))) (knowledge_facts l.subject.names.now l.known);
+  along : (q : Seen) → Knows l.subject q (knowledge_facts l.subject.names.now l.initial.known) → Along l.subject q (knowledge_facts l.subject.names.now l.known) (operands_gains (operands_from l.subject.script.now l.rest)) (operands_gains (operands_from l.subject.script.now (drop l.place l.rest)));
 }
+
+abbrev pub decreases-words::pass_operands-loop-place : goal.decreases-words::pass_operands-loop-place
+decreases-words::pass_operands-loop-place l = length l.rest - l.place
 
 abbrev pub invariant-sweep::sweep_again-loop-round : goal.invariant-sweep::sweep_again-loop-round
 invariant-sweep::sweep_again-loop-round l = record { swept : IsSwept l.subject l.initial.draft.certificate l.draft.certificate l.draft.probe.count }

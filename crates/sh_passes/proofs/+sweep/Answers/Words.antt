@@ -7,19 +7,17 @@ use Rattle.sh_tree.specs.standard.program.Trees.{expression_of, operator_of, par
 use Rattle.sh_tree.proofs.ProgramRules as program
 use Rattle.sh_domain.specs.declared.rule.FlowRule.TheVariants.{F11}
 use Rattle.sh_domain.specs.Entries as entries
-use Rattle.sh_domain.specs.Entries.{Around}
 use Rattle.sh_domain.specs.Gains.{and_gains, assigned_in, expanded_gains, named, operands_gains, operator_gains, part_gains, redirect_gains, word_gains}
 use Rattle.sh_domain.specs.Knowledge.{knowledge_facts}
 use Rattle.sh_domain.specs.Views.{Before, at}
 use Rattle.sh_rules.specs.Walks as walks
-use Rattle.sh_rules.specs.Walks.{facts_in}
 use Rattle.sh_sweeps.specs.Sweeps.{AreElements, Gained, IsIn, IsList, IsWord}
 use Rattle.sh_drafts.specs.Ready.{IsReady}
 use Rattle.sh_sweeps.proofs.PlacedLemmas.{at_index, found_below}
 use Rattle.sh_drafts.proofs.ReadyLemmas.{names_numbered, ready_again, swept_more, swept_none}
 use Rattle.sh_domain.specs.Facts.{NotReached}
 use Rattle.sh_sweeps.proofs.KnownLemmas.{unreached}
-use Rattle.sh_sweeps.proofs.WordLemmas.{Along, along_first, along_no_operands, along_no_parts, along_operands, along_parts, arithmetic_gained, arithmetic_placed, assigned_gained, assigned_placed, both_gained, chain_first, chain_gained, chain_rest, choice_condition, choice_gained, choice_no, choice_yes, double_gained, double_placed, element_as, elements_first, expanded_gained, expanded_placed, expansion_gained, expansion_placed, expression_as, expression_gained, file_gained, file_placed, gained_nowhere, here_gained, here_placed, if_ok, link_expression, listed_placed, literal_gained, nothing_gained, operand_inside, operand_next, operand_placed, operands_next, parenthesis_gained, parenthesis_placed, part_as, part_gained, part_placed, pattern_placed, patterns_next, pieces_next, plain_gained, redirect_placed, redirection_next, redirection_placed, redirects_next, remove_placed, signed_gained, signed_placed, substitution_placed, use_gained, use_placed, value_next, value_placed, word_placed, words_next, word_left, elements_left, patterns_left, redirects_left, words_left}
+use Rattle.sh_sweeps.proofs.WordLemmas.{Along, along_first, along_no_operands, along_no_parts, along_operands, along_parts, arithmetic_gained, arithmetic_placed, assigned_gained, assigned_placed, both_gained, chain_first, chain_gained, chain_rest, choice_condition, choice_gained, choice_no, choice_yes, double_gained, double_placed, element_as, elements_first, expanded_gained, expanded_placed, expansion_gained, expansion_placed, expression_as, expression_gained, file_gained, file_placed, gained_nowhere, here_gained, here_placed, if_ok, link_expression, listed_placed, literal_gained, nothing_gained, operand_inside, operand_next, operand_placed, operands_next, parenthesis_gained, parenthesis_placed, part_as, part_gained, part_placed, pattern_placed, patterns_next, pieces_next, plain_gained, redirect_placed, redirection_next, redirection_placed, redirects_next, remove_placed, signed_gained, signed_placed, substitution_placed, use_gained, use_placed, value_next, value_placed, word_placed, words_next, word_left, elements_left, operands_left, patterns_left, redirects_left, words_left}
 use Rattle.sh_passes.proofs.+sweep.Goals as goal
 
 pub sweep_elements-loop-place-init : goal.words::sweep_elements-loop-place-init
@@ -213,9 +211,9 @@ pass_parts-pass_part-requires t c =
     let s = c.args.subject.now in
     let r = c.requires.ready in
     let k = knowledge_facts s.names.now c.loop-place.known in
-    let next = c.place_of_news-next.result in
-    let left = word_left s _ (names_numbered s _ _ r) r.over c.loop-place.known c.is_reached-is_known.result (word_gains (parts_from s.script.now c.args.parts.now)) (knowledge_facts s.names.now c.args.known.now) c.args.parts.now c.loop-place.place next (c.is_reached-is_known.ensures s.names.now) c.place_of_news-next.ensures.from c.place_of_news-next.ensures.known (c.loop-place.invariant.placed, c.loop-place.invariant.along) in
-    let at = at_index c.args.parts.now next c.index-parts-next.result (found_below next (length c.args.parts.now) c.place_of_news-next.ensures.there c.if-next-parts.false) c.index-parts-next.is in
+    let next = c.place_of_text-next.result in
+    let left = word_left s _ (names_numbered s _ _ r) r.over c.loop-place.known c.is_reached-is_known.result (word_gains (parts_from s.script.now c.args.parts.now)) (knowledge_facts s.names.now c.args.known.now) c.args.parts.now c.loop-place.place next (c.is_reached-is_known.ensures s.names.now) c.place_of_text-next.ensures.from c.place_of_text-next.ensures.known (c.loop-place.invariant.placed, c.loop-place.invariant.along) in
+    let at = at_index c.args.parts.now next c.index-parts-next.result (found_below next (length c.args.parts.now) c.place_of_text-next.ensures.there c.if-next-parts.false) c.index-parts-next.is in
     let here : IsWord s k (parts_from s.script.now (c.index-parts-next.result ∷ drop (next + 1) c.args.parts.now)) = subst (λ xs. IsWord s k (parts_from s.script.now xs)) at left.0 in
     let ready : IsReady s c.loop-place.draft.certificate c.loop-place.draft.probe.count = ready_again s _ _ _ _ r c.loop-place.invariant.swept in
     let placed : IsIn s (λ q. entries.part_entered q (part_of s.script.now c.index-parts-next.result)) k = part_placed s k c.index-parts-next.result _ here in
@@ -226,9 +224,9 @@ pass_parts-loop-place-preserved t c =
     let s = c.args.subject.now in
     let r = c.requires.ready in
     let k = knowledge_facts s.names.now c.loop-place.known in
-    let next = c.place_of_news-next.result in
-    let left = word_left s _ (names_numbered s _ _ r) r.over c.loop-place.known c.is_reached-is_known.result (word_gains (parts_from s.script.now c.args.parts.now)) (knowledge_facts s.names.now c.args.known.now) c.args.parts.now c.loop-place.place next (c.is_reached-is_known.ensures s.names.now) c.place_of_news-next.ensures.from c.place_of_news-next.ensures.known (c.loop-place.invariant.placed, c.loop-place.invariant.along) in
-    let at = at_index c.args.parts.now next c.index-parts-next.result (found_below next (length c.args.parts.now) c.place_of_news-next.ensures.there c.if-next-parts.false) c.index-parts-next.is in
+    let next = c.place_of_text-next.result in
+    let left = word_left s _ (names_numbered s _ _ r) r.over c.loop-place.known c.is_reached-is_known.result (word_gains (parts_from s.script.now c.args.parts.now)) (knowledge_facts s.names.now c.args.known.now) c.args.parts.now c.loop-place.place next (c.is_reached-is_known.ensures s.names.now) c.place_of_text-next.ensures.from c.place_of_text-next.ensures.known (c.loop-place.invariant.placed, c.loop-place.invariant.along) in
+    let at = at_index c.args.parts.now next c.index-parts-next.result (found_below next (length c.args.parts.now) c.place_of_text-next.ensures.there c.if-next-parts.false) c.index-parts-next.is in
     let here : IsWord s k (parts_from s.script.now (c.index-parts-next.result ∷ drop (next + 1) c.args.parts.now)) = subst (λ xs. IsWord s k (parts_from s.script.now xs)) at left.0 in
     record {
       swept = swept_more s _ _ _ _ _ c.loop-place.invariant.swept c.in_ok-pass_part.ensures.swept;
@@ -243,8 +241,8 @@ pass_parts-returns-then-next-parts-clause-gained t c =
     let s = c.args.subject.now in
     let r = c.requires.ready in
     let k = knowledge_facts s.names.now c.loop-place.known in
-    let next = c.place_of_news-next.result in
-    let left = word_left s _ (names_numbered s _ _ r) r.over c.loop-place.known c.is_reached-is_known.result (word_gains (parts_from s.script.now c.args.parts.now)) (knowledge_facts s.names.now c.args.known.now) c.args.parts.now c.loop-place.place next (c.is_reached-is_known.ensures s.names.now) c.place_of_news-next.ensures.from c.place_of_news-next.ensures.known (c.loop-place.invariant.placed, c.loop-place.invariant.along) in
+    let next = c.place_of_text-next.result in
+    let left = word_left s _ (names_numbered s _ _ r) r.over c.loop-place.known c.is_reached-is_known.result (word_gains (parts_from s.script.now c.args.parts.now)) (knowledge_facts s.names.now c.args.known.now) c.args.parts.now c.loop-place.place next (c.is_reached-is_known.ensures s.names.now) c.place_of_text-next.ensures.from c.place_of_text-next.ensures.known (c.loop-place.invariant.placed, c.loop-place.invariant.along) in
     let over : length c.args.parts.now ≤ next = omega (arith, c.if-next-parts.true) in
     along_no_parts s _ (names_numbered s _ _ r) r.over q _ _
     (subst (λ xs. Along s q k (word_gains (parts_from s.script.now c.args.parts.now)) (word_gains (parts_from s.script.now xs))) (drop_all next c.args.parts.now over) (left.1 q w))
@@ -477,8 +475,8 @@ pass_chain-returns t c =
       gained = chain_gained s _ (names_numbered s _ _ r) r.over k (knowledge_facts s.names.now c.pass_expression.new.known) _ (expression_of s.script.now c.args.first.now) (operands_from s.script.now c.args.rest.now) c.in_ok-pass_expression.ensures.gained c.in_ok-pass_operands.ensures.gained;
     }
 
-pub pass_operands-loop-link-init : goal.words::pass_operands-loop-link-init
-pass_operands-loop-link-init t c =
+pub pass_operands-loop-place-init : goal.words::pass_operands-loop-place-init
+pass_operands-loop-place-init t c =
     let s = c.args.subject.now in
     let r = c.requires.ready in
     record { swept = swept_none s _ _ r; placed = c.requires.placed; along = λ q w. along_first s q _ _ w }
@@ -487,22 +485,42 @@ pub pass_operands-pass_expression-requires : goal.words::pass_operands-pass_expr
 pass_operands-pass_expression-requires t c =
     let s = c.args.subject.now in
     let r = c.requires.ready in
-    let ready : IsReady s c.loop-link.draft.certificate c.loop-link.draft.probe.count = ready_again s _ _ _ _ r c.loop-link.invariant.swept in
-    let here : IsIn s (λ q. entries.operands_entered q (operands_from s.script.now (c.link-item.result ∷ drop (c.loop-link.link-index + 1) c.args.rest.now))) (knowledge_facts s.names.now c.loop-link.known) = subst (λ xs. IsIn s (λ q. entries.operands_entered q (operands_from s.script.now xs)) (knowledge_facts s.names.now c.loop-link.known)) (at_index c.args.rest.now c.loop-link.link-index c.link-item.result c.loop-link-test.true c.link-item.is) c.loop-link.invariant.placed in
-    let placed : IsIn s (λ q. entries.expression_entered q (expression_of s.script.now c.link-item.result.1)) (knowledge_facts s.names.now c.loop-link.known) = link_expression s (knowledge_facts s.names.now c.loop-link.known) c.link-item.result _ here in
+    let k = knowledge_facts s.names.now c.loop-place.known in
+    let next = c.place_of_text-next.result in
+    let left = operands_left s _ (names_numbered s _ _ r) r.over c.loop-place.known c.is_reached-is_known.result (operands_gains (operands_from s.script.now c.args.rest.now)) (knowledge_facts s.names.now c.args.known.now) c.args.rest.now c.loop-place.place next (c.is_reached-is_known.ensures s.names.now) c.place_of_text-next.ensures.from c.place_of_text-next.ensures.known (c.loop-place.invariant.placed, c.loop-place.invariant.along) in
+    let at = at_index c.args.rest.now next c.index-rest-next.result (found_below next (length c.args.rest.now) c.place_of_text-next.ensures.there c.if-next-rest.false) c.index-rest-next.is in
+    let here : IsIn s (λ q. entries.operands_entered q (operands_from s.script.now (c.index-rest-next.result ∷ drop (next + 1) c.args.rest.now))) k = subst (λ xs. IsIn s (λ q. entries.operands_entered q (operands_from s.script.now xs)) k) at left.0 in
+    let ready : IsReady s c.loop-place.draft.certificate c.loop-place.draft.probe.count = ready_again s _ _ _ _ r c.loop-place.invariant.swept in
+    let placed : IsIn s (λ q. entries.expression_entered q (expression_of s.script.now c.index-rest-next.result.1)) k = link_expression s k c.index-rest-next.result _ here in
     search std_rules
 
-pub pass_operands-loop-link-preserved : goal.words::pass_operands-loop-link-preserved
-pass_operands-loop-link-preserved t c =
+pub pass_operands-loop-place-preserved : goal.words::pass_operands-loop-place-preserved
+pass_operands-loop-place-preserved t c =
     let s = c.args.subject.now in
     let r = c.requires.ready in
-    let here : IsIn s (λ q. entries.operands_entered q (operands_from s.script.now (c.link-item.result ∷ drop (c.loop-link.link-index + 1) c.args.rest.now))) (knowledge_facts s.names.now c.loop-link.known) = subst (λ xs. IsIn s (λ q. entries.operands_entered q (operands_from s.script.now xs)) (knowledge_facts s.names.now c.loop-link.known)) (at_index c.args.rest.now c.loop-link.link-index c.link-item.result c.loop-link-test.true c.link-item.is) c.loop-link.invariant.placed in
+    let k = knowledge_facts s.names.now c.loop-place.known in
+    let next = c.place_of_text-next.result in
+    let left = operands_left s _ (names_numbered s _ _ r) r.over c.loop-place.known c.is_reached-is_known.result (operands_gains (operands_from s.script.now c.args.rest.now)) (knowledge_facts s.names.now c.args.known.now) c.args.rest.now c.loop-place.place next (c.is_reached-is_known.ensures s.names.now) c.place_of_text-next.ensures.from c.place_of_text-next.ensures.known (c.loop-place.invariant.placed, c.loop-place.invariant.along) in
+    let at = at_index c.args.rest.now next c.index-rest-next.result (found_below next (length c.args.rest.now) c.place_of_text-next.ensures.there c.if-next-rest.false) c.index-rest-next.is in
+    let here : IsIn s (λ q. entries.operands_entered q (operands_from s.script.now (c.index-rest-next.result ∷ drop (next + 1) c.args.rest.now))) k = subst (λ xs. IsIn s (λ q. entries.operands_entered q (operands_from s.script.now xs)) k) at left.0 in
     record {
-      swept = swept_more s _ _ _ _ _ c.loop-link.invariant.swept c.in_ok-pass_expression.ensures.swept;
-      placed = operands_next s (knowledge_facts s.names.now c.loop-link.known) (knowledge_facts s.names.now c.pass_expression.new.known) c.link-item.result _ c.in_ok-pass_expression.ensures.gained here;
-      along = λ q w. along_operands s _ (names_numbered s _ _ r) r.over q (knowledge_facts s.names.now c.loop-link.known) _ _ c.link-item.result _ c.in_ok-pass_expression.ensures.gained
-          (subst (λ xs. Along s q (knowledge_facts s.names.now c.loop-link.known) (operands_gains (operands_from s.script.now c.args.rest.now)) (operands_gains (operands_from s.script.now xs))) (at_index c.args.rest.now c.loop-link.link-index c.link-item.result c.loop-link-test.true c.link-item.is) (c.loop-link.invariant.along q w));
+      swept = swept_more s _ _ _ _ _ c.loop-place.invariant.swept c.in_ok-pass_expression.ensures.swept;
+      placed = operands_next s k (knowledge_facts s.names.now c.pass_expression.new.known) c.index-rest-next.result _ c.in_ok-pass_expression.ensures.gained here;
+      along = λ q w. along_operands s _ (names_numbered s _ _ r) r.over q k _ _ c.index-rest-next.result _ c.in_ok-pass_expression.ensures.gained
+          (subst (λ xs. Along s q k (operands_gains (operands_from s.script.now c.args.rest.now)) (operands_gains (operands_from s.script.now xs))) at (left.1 q w));
     }
+
+pub pass_operands-returns-then-next-rest-clause-gained : goal.words::pass_operands-returns-then-next-rest-clause-gained
+pass_operands-returns-then-next-rest-clause-gained t c =
+    λ q w.
+    let s = c.args.subject.now in
+    let r = c.requires.ready in
+    let k = knowledge_facts s.names.now c.loop-place.known in
+    let next = c.place_of_text-next.result in
+    let left = operands_left s _ (names_numbered s _ _ r) r.over c.loop-place.known c.is_reached-is_known.result (operands_gains (operands_from s.script.now c.args.rest.now)) (knowledge_facts s.names.now c.args.known.now) c.args.rest.now c.loop-place.place next (c.is_reached-is_known.ensures s.names.now) c.place_of_text-next.ensures.from c.place_of_text-next.ensures.known (c.loop-place.invariant.placed, c.loop-place.invariant.along) in
+    let over : length c.args.rest.now ≤ next = omega (arith, c.if-next-rest.true) in
+    along_no_operands s _ (names_numbered s _ _ r) r.over q _ _
+    (subst (λ xs. Along s q k (operands_gains (operands_from s.script.now c.args.rest.now)) (operands_gains (operands_from s.script.now xs))) (drop_all next c.args.rest.now over) (left.1 q w))
 
 pub pass_operands-returns-clause-gained : goal.words::pass_operands-returns-clause-gained
 pass_operands-returns-clause-gained t c =
@@ -510,7 +528,7 @@ pass_operands-returns-clause-gained t c =
     let s = c.args.subject.now in
     let r = c.requires.ready in
     along_no_operands s _ (names_numbered s _ _ r) r.over q _ _
-    (subst (λ xs. Along s q (knowledge_facts s.names.now c.loop-link.known) (operands_gains (operands_from s.script.now c.args.rest.now)) (operands_gains (operands_from s.script.now xs))) (drop_all c.loop-link.link-index c.args.rest.now c.loop-link-test.false) (c.loop-link.invariant.along q w))
+    (subst (λ xs. Along s q (knowledge_facts s.names.now c.loop-place.known) (operands_gains (operands_from s.script.now c.args.rest.now)) (operands_gains (operands_from s.script.now xs))) (drop_all c.loop-place.place c.args.rest.now c.loop-place-test.false) (c.loop-place.invariant.along q w))
 
 pub pass_choice-pass_expression-requires : goal.words::pass_choice-pass_expression-requires
 pass_choice-pass_expression-requires t c =
