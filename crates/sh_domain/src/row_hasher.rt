@@ -65,4 +65,10 @@ impl Hasher for RowHasher {
     fn write(&mut self, bytes: &[u8]) {
         self.state = mixed(self.state, word_of(bytes));
     }
+
+    // As `write` of its bytes.
+    #[inline(always)]
+    fn write_u64(&mut self, word: u64) {
+        self.state = mixed(self.state, word);
+    }
 }

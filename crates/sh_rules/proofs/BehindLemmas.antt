@@ -170,9 +170,6 @@ same_kept o e =
     let joined : in_any_case o ≡ o.zero = ap (meet o.zero) (sym e) ∙ meet_itself o.zero in
     ap both joined ∙ ap (either o.zero) e
 
-pub kept_same : (o p : Behind) → o ≡ both (in_any_case p) → IsSame o
-kept_same o p e = ap (λ (q : Behind). q.zero) e ∙ ap (λ (q : Behind). q.nonzero) (sym e)
-
 -- the list of an item that is no asynchronous one
 
 pub lone_out : (x : Setting) (k : Facts) (l : AndOr) (c : Command) → lone_part (out-Pipe (out-AndOr l).first).parts ≡ Some c
