@@ -1,5 +1,6 @@
-//! How long a look at a command takes: a hint.
+//! How long a look at a command takes, and whether it has words that hold another: hints.
 
+use sh_drafts::Subject;
 use sh_tree::{Clause, Command, Element, Kind, Target};
 
 // So many bytes of words take as long as a short command.
@@ -14,6 +15,14 @@ pub fn looks_of(command: &Command) -> u64 {
     let pieces = pieces_of(&command.kind).saturating_add(command.redirects.as_slice().len());
     1u64.saturating_add((bytes / BYTES) as u64)
         .saturating_add((pieces / PIECES) as u64)
+}
+
+/// Whether the next command begins in the words of this one. One in a here-document may come later.
+pub fn is_before_next(subject: &Subject<'_>, command: &Command) -> bool {
+    match subject.commands.get(command.number as usize) {
+        Some(next) => next.at < end_of_words(command),
+        None => false,
+    }
 }
 
 // Where the words of a command end. If it has none, it ends there.

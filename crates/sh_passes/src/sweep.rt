@@ -19,6 +19,7 @@ ghost use Rattle.sh_drafts.specs.Ready.{IsReady, IsSwept};
 use crate::bodies::{is_called_again, sweep_called};
 use crate::choices::{sweep_case, sweep_cond};
 use crate::links::{sweep_links, sweep_links_again};
+use crate::looks::is_before_next;
 use crate::own::{is_entered, lower_behind, lower_command};
 use crate::rounds::sweep_rounds;
 use crate::words::{sweep_elements, sweep_for_words, sweep_redirections};
@@ -441,7 +442,7 @@ fn sweep_held(
     requires placed { IsInside subject.now (walks.around subject.now.script.now around.now) command.now }
     ensures swept { IfOk result (λ unit. IsSwept subject.now draft.old.certificate draft.new.certificate draft.new.probe.count) }
 {
-    if !is_inside || !is_in_elements(command.elements()) {
+    if !is_inside || !(is_before_next(subject, command) || is_in_elements(command.elements())) {
         return Ok(());
     }
     sweep_inside(subject, draft, levels, around, command, is_new)

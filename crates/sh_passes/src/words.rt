@@ -297,7 +297,12 @@ fn sweep_word(
     requires placed { IsWord subject.now (knowledge_facts subject.now.names.now known.now) (parts_from subject.now.script.now word.now.parts) }
     ensures swept { IfOk result (λ unit. IsSwept subject.now draft.old.certificate draft.new.certificate draft.new.probe.count) }
 {
-    if !is_in_word(word) || (!known.is_reached() && !may_wait_in(subject, &draft.waiting, word)) {
+    let may_go_in = if known.is_reached() {
+        is_in_word(word)
+    } else {
+        may_wait_in(subject, &draft.waiting, word)
+    };
+    if !may_go_in {
         return Ok(());
     }
     let mut inside = *known;

@@ -14,6 +14,9 @@ use sh_worklist::Waiting;
 // So few are looked at one by one.
 const FEW: usize = 8;
 
+// In a word of no more bytes each part is looked at.
+const SHORT: u32 = 64;
+
 // The first operands of an expression are no more levels in than this.
 const LEVELS: u32 = 2048;
 
@@ -162,7 +165,7 @@ pub fn place_of_text<T: Text>(
 
 /// Whether a command may wait in a word.
 pub fn may_wait_in(subject: &Subject<'_>, waiting: &Waiting, word: &Word) -> bool {
-    if word.parts.as_slice().len() <= FEW {
+    if word.span.end.saturating_sub(word.span.start) <= SHORT {
         return may_wait_in_word(waiting, word);
     }
     let first = number_at(subject, word.span.start);
