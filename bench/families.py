@@ -654,6 +654,8 @@ FAMILIES = {
     "reached back in a word": (reached_back("echo ", "$(C)", "$(b)", "\n"), ()),
     "reached back in a sum": (reached_back(": $((1", "+$(C)", "+1", "))\n"), ()),
     "reached back after a group": (lambda size: reached_back("{ " + "b; " * (size // 12) + "} ", ">$(C) ", ">b ", "\n")(size), ()),
+    "reached back after constants": (lambda size: reached_back(": $((1" + "+1" * (size // 8), "+$(C)", "+1", "))\n")(size), ()),
+    "reached back after lines": (lambda size: reached_back("cat <<E\n" + "$a\n" * (size // 9), "$(C)\n", "$a\n", "E\n")(size), ()),
     "reached back in definitions": (reached_back("a", " || ( C )", "||f() { b; }", "\n"), ()),
     "long body of words": (long_body("echo ", "a "), ()),
     "long body of a word": (long_body("echo $(b)", '"a"'), ()),
