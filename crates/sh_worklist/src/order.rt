@@ -42,13 +42,12 @@ struct Walk {
 }
 
 impl Walk {
-    // Has the walk begin with the functions that are called in a unit.
+    // Has the walk begin with the functions that are called in a unit, the first call next.
     fn follow(&mut self, unit: u32) -> Result<(), AllocError> {
         let start = self.calls.partition_point(|call| call.unit < unit);
-        for call in &self.calls[start..] {
-            if call.unit != unit {
-                return Ok(());
-            }
+        let calls = &self.calls[start..];
+        let count = calls.partition_point(|call| call.unit == unit);
+        for call in calls[..count].iter().rev() {
             self.steps.push(Step::Begin(call.function))?;
         }
         Ok(())

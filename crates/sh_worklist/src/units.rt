@@ -52,7 +52,7 @@ pub struct Units {
     ranks: Vec<Rank>,
     order: Vec<u32>,
     // The places in the order of the bodies in which a command waits.
-    ranked: Flags,
+    inside: Flags,
     // The places in the order of the bodies that are entered with less.
     entered: Flags,
     cursor: u32,
@@ -82,7 +82,7 @@ impl Units {
             steps: Vec::new(alloc),
             ranks: vec![in alloc; Rank::Unseen; count]?,
             order: Vec::new(alloc),
-            ranked: Flags::none(alloc, count)?,
+            inside: Flags::none(alloc, count)?,
             entered: Flags::none(alloc, count)?,
             cursor: 0,
             is_rising: true,
@@ -99,7 +99,7 @@ impl Units {
     {
         add_each(&mut self.waiting, self.order.as_slice());
         self.waiting.add(0);
-        add_below(&mut self.ranked, self.order.len());
+        add_below(&mut self.inside, self.order.len());
         add_below(&mut self.entered, self.order.len());
     }
 
@@ -145,7 +145,7 @@ impl Units {
         ensures unseen { self.new.unseen ≡ self.old.unseen }
     {
         if let Rank::At(rank) = self.rank(definition) {
-            self.ranked.add(rank);
+            self.inside.add(rank);
         }
         self.add_body(definition)
     }
@@ -219,7 +219,7 @@ impl Units {
             }
             Rank::Begun => (),
             Rank::At(rank) => {
-                self.ranked.take(rank);
+                self.inside.take(rank);
                 self.entered.take(rank);
             }
         }
@@ -256,7 +256,7 @@ impl Units {
         self.order.push(definition)?;
         self.set_rank(definition, Rank::At(rank));
         if self.waiting.has(definition) {
-            self.ranked.add(rank);
+            self.inside.add(rank);
             self.entered.add(rank);
         }
         Ok(())
@@ -286,7 +286,7 @@ impl Units {
         ensures unseen { self.new.unseen ≡ self.old.unseen }
     {
         self.order.clear();
-        self.ranked = Flags::none(alloc, self.ranks.len())?;
+        self.inside = Flags::none(alloc, self.ranks.len())?;
         self.entered = Flags::none(alloc, self.ranks.len())?;
         for definition in order {
             if matches!(self.rank(*definition), Rank::At(_)) {
@@ -322,11 +322,11 @@ impl Units {
     // one there.
     fn ahead(&self) -> Option<u32> {
         if self.is_rising {
-            let next = self.ranked.next(self.cursor, u32::MAX);
-            next.or(self.ranked.next(0, u32::MAX))
+            let next = self.inside.next(self.cursor, u32::MAX);
+            next.or_else(|| self.inside.next(0, u32::MAX))
         } else {
             let last = self.entered.last(self.cursor);
-            last.or(self.entered.last(u32::MAX))
+            last.or_else(|| self.entered.last(u32::MAX))
         }
     }
 
@@ -345,7 +345,7 @@ impl Units {
     }
 
     // A body that waits, by the order.
-    fn next_ranked(&mut self) -> Option<u32>
+    fn next_in_order(&mut self) -> Option<u32>
         ensures waiting { self.new.waiting ≡ self.old.waiting }
         ensures unseen { self.new.unseen ≡ self.old.unseen }
     {
@@ -379,7 +379,7 @@ impl Units {
             return Ok(Some(Unit::Body(definition)));
         }
         self.put_in_order(alloc, table, commands)?;
-        if let Some(definition) = self.next_ranked() {
+        if let Some(definition) = self.next_in_order() {
             return Ok(Some(Unit::Body(definition)));
         }
         if self.waiting.take(0) {
