@@ -30,5 +30,5 @@ pub use sight::Sight;
 pub use spot::{Spot, fitting, of_command};
 pub use subject::Subject;
 pub use target::Target;
-pub use wakes::{enter_function, look, note_lowered, note_place};
+pub use wakes::{enter_function, look, look_again, note_lowered, note_place};
 pub use writable::Writable;

@@ -50,12 +50,23 @@ fn wake_place(
     }
 }
 
-/// A sweep looks at a command, which waits no longer. Returns whether it waited.
-pub fn look(subject: &Subject<'_>, waiting: &mut Waiting, command: u32) -> Look {
+// Not all callers of the function wait that a command calls.
+fn take_called(subject: &Subject<'_>, waiting: &mut Waiting, command: u32) {
     if let Some(function) = subject.table.callee(command) {
         waiting.called.take(function.saturating_sub(1));
     }
+}
+
+/// A sweep looks at a command, which waits no longer. Returns whether it waited.
+pub fn look(subject: &Subject<'_>, waiting: &mut Waiting, command: u32) -> Look {
+    take_called(subject, waiting, command);
     waiting.look(command)
+}
+
+/// A sweep looks at a call again after it went into the bodies of the function.
+pub fn look_again(subject: &Subject<'_>, waiting: &mut Waiting, command: u32) {
+    take_called(subject, waiting, command);
+    waiting.release(command);
 }
 
 /// A sweep goes into a body of the function of an index. Returns the index of the one that it was

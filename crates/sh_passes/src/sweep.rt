@@ -25,7 +25,7 @@ use crate::rounds::sweep_rounds;
 use crate::words::{sweep_elements, sweep_for_words, sweep_redirections};
 use sh_domain::{FlowRule, Knowledge};
 use sh_drafts::inner::is_in_elements;
-use sh_drafts::{Draft, Subject, look};
+use sh_drafts::{Draft, Subject, look, look_again};
 use sh_rules::{Around, Course, alone, begun, in_function, meet};
 use sh_sweeps::known::{entry_of, head_of, pass_all, pass_on, process_of, started_in, turn_of};
 use sh_sweeps::nowhere::{inside_if, leave_all, leave_item, pipe_if};
@@ -422,7 +422,9 @@ fn sweep_simple(
     if !is_news || levels < LEVELS - CALLS {
         return Ok(());
     }
+    draft.waiting.hold(command.number);
     sweep_called(subject, draft, levels, command)?;
+    look_again(subject, &mut draft.waiting, command.number);
     lower_behind(subject, draft, by, around, known, command)?;
     Ok(())
 }

@@ -107,6 +107,26 @@ impl Commands {
         }
     }
 
+    /// Has a command wait, and no unit for it: it is looked at again before its unit is left.
+    pub fn hold(&mut self, command: u32)
+        ensures own { (k : ℕ) → is_in self.new.own k ≡ ((k == command && nat_lt command (limit_of self.old.own)) || is_in self.old.own k) }
+        ensures limit { limit_of self.new.own ≡ limit_of self.old.own }
+        ensures inner { self.new.inner ≡ self.old.inner }
+        ensures places { self.new.places ≡ self.old.places }
+    {
+        self.own.add(command);
+    }
+
+    /// A command is looked at again, so it waits no longer. Those inside of it wait as before.
+    pub fn release(&mut self, command: u32)
+        ensures own { (k : ℕ) → is_in self.new.own k ≡ (not (k == command) && is_in self.old.own k) }
+        ensures limit { limit_of self.new.own ≡ limit_of self.old.own }
+        ensures inner { self.new.inner ≡ self.old.inner }
+        ensures places { self.new.places ≡ self.old.places }
+    {
+        self.own.take(command);
+    }
+
     /// Where a command is.
     pub fn place(&self, command: u32) -> Inside
         ensures { result ≡ place_in self.now.places.items command }

@@ -86,6 +86,25 @@ impl Waiting {
         self.commands.look(command, self.inside)
     }
 
+    /// The sweep goes from a call into bodies of the function, and looks at the call again after
+    /// that. Until then the call waits, so what the function leaves has no unit wait for it.
+    pub fn hold(&mut self, command: u32)
+        ensures waits { (k : ℕ) → waits self.new k ≡ ((k == command && nat_lt command (limit self.old)) || waits self.old k) }
+        ensures entered { (k : ℕ) → waits_inside self.new k ≡ waits_inside self.old k }
+        ensures units { self.new.units ≡ self.old.units }
+    {
+        self.commands.hold(command);
+    }
+
+    /// The sweep looks at the call again, which waits no longer.
+    pub fn release(&mut self, command: u32)
+        ensures taken { (k : ℕ) → waits self.new k ≡ (not (k == command) && waits self.old k) }
+        ensures entered { (k : ℕ) → waits_inside self.new k ≡ waits_inside self.old k }
+        ensures units { self.new.units ≡ self.old.units }
+    {
+        self.commands.release(command);
+    }
+
     /// The sweep goes into a command. Returns where it was.
     pub fn enter_command(&mut self, command: u32) -> Inside
         ensures outer { result ≡ self.old.inside }
