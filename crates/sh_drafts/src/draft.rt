@@ -203,8 +203,8 @@ impl Draft {
 
     /// Whether a call goes over a body of the function at once, though a pass over it has ended: a
     /// hint. What it is entered with fell, so what it returns with may fall too. Such passes take at
-    /// most half of the looks, so that a body with many callers is not gone over for each of them.
+    /// most a quarter of the looks, so that a body with many callers is not gone over for each.
     pub fn goes_again(&self, definition: u32) -> bool {
-        self.again <= self.looks / 2 && self.waiting.units.waits_again(definition)
+        self.again <= self.looks / 4 && self.waiting.units.waits_again(definition)
     }
 }
