@@ -1,5 +1,5 @@
-//! Where a sweep goes on among the words of a command, and in a word: at the next in which a command
-//! may wait, by where that begins in the script. All of this is hints.
+//! Where a sweep goes on among the words of a command, and in a word: at the next one in which a
+//! command may wait, by where that begins in the script. All of this is hints.
 ghost use Rattle.std.specs.Prelude.{◌≡◌, ◌≤◌, ◌<◌, List, true, false, length};
 ghost use Rattle.sh_tree.specs.standard.program.Syntax.{Text as Bytes};
 ghost use Rattle.sh_domain.specs.Facts.{NotReached};
@@ -20,7 +20,8 @@ const SHORT: u32 = 64;
 // The first operands of an expression are no more levels in than this.
 const LEVELS: u32 = 2048;
 
-/// A word, what has one, or a piece of one. Each begins after the one before it, except in a here-document.
+/// A word, what has one, or a piece of one. Each begins after the one before it, except in a
+/// here-document.
 pub trait Text {
     /// Where it begins in the script.
     fn start(&self) -> u32;

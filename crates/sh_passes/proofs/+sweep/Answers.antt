@@ -684,43 +684,25 @@ sweep::sweep_simple-returns t c =
     record { swept = swept_more s _ _ _ _ _ (swept_more s _ _ _ _ _ (swept_more s _ _ _ _ _ c.in_ok-sweep_held.ensures.swept c.in_ok-lower_behind.ensures.swept) c.in_ok-sweep_called.ensures.swept) c.in_ok-lower_behind-2.ensures.swept }
 
 pub sweep::sweep_compound-sweep_inside-requires : goal.sweep::sweep_compound-sweep_inside-requires
-sweep::sweep_compound-sweep_inside-requires t c =
-    let s = c.args.subject.now in
-    let y = walks.around s.script.now c.args.around.now in
-    let placed : IsInside s y c.args.command.now = inside_placed s c.args.by y (knowledge_facts s.names.now c.args.known.now) c.args.command.now c.requires.placed in
-    search std_rules
+sweep::sweep_compound-sweep_inside-requires = bodies.sweep_compound-sweep_inside-requires
 
 pub sweep::sweep_compound-sweep_again-requires : goal.sweep::sweep_compound-sweep_again-requires
-sweep::sweep_compound-sweep_again-requires t c =
-    let s = c.args.subject.now in
-    let y = walks.around s.script.now c.args.around.now in
-    let ready : IsReady s c.sweep_rounds.new.draft.certificate c.sweep_rounds.new.draft.probe.count = ready_again s _ _ _ _ c.requires.ready c.in_ok-sweep_rounds.ensures.swept in
-    let placed : IsInside s y c.args.command.now = inside_placed s c.args.by y (knowledge_facts s.names.now c.args.known.now) c.args.command.now c.requires.placed in
-    search std_rules
+sweep::sweep_compound-sweep_again-requires = bodies.sweep_compound-sweep_again-requires
 
 pub sweep::sweep_compound-lower_behind-requires-clause-ready : goal.sweep::sweep_compound-lower_behind-requires-clause-ready
-sweep::sweep_compound-lower_behind-requires-clause-ready t c =
-    let s = c.args.subject.now in
-    ready_again s _ _ _ _ (ready_again s _ _ _ _ c.requires.ready c.in_ok-sweep_rounds.ensures.swept) c.in_ok-sweep_again.ensures.swept
+sweep::sweep_compound-lower_behind-requires-clause-ready = bodies.sweep_compound-lower_behind-requires-clause-ready
 
 pub sweep::sweep_compound-returns-then-draft-before : goal.sweep::sweep_compound-returns-then-draft-before
-sweep::sweep_compound-returns-then-draft-before t c =
-    let s = c.args.subject.now in
-    record { swept = swept_more s _ _ _ _ _ c.in_ok-sweep_rounds.ensures.swept c.in_ok-sweep_again.ensures.swept }
+sweep::sweep_compound-returns-then-draft-before = bodies.sweep_compound-returns-then-draft-before
 
 pub sweep::sweep_compound-returns : goal.sweep::sweep_compound-returns
-sweep::sweep_compound-returns t c =
-    let s = c.args.subject.now in
-    record { swept = swept_more s _ _ _ _ _ (swept_more s _ _ _ _ _ c.in_ok-sweep_rounds.ensures.swept c.in_ok-sweep_again.ensures.swept) c.in_ok-lower_behind.ensures.swept }
+sweep::sweep_compound-returns = bodies.sweep_compound-returns
 
 pub sweep::sweep_again-sweep_inside-requires : goal.sweep::sweep_again-sweep_inside-requires
-sweep::sweep_again-sweep_inside-requires t c =
-    let s = c.args.subject.now in
-    let ready : IsReady s c.loop-round.draft.certificate c.loop-round.draft.probe.count = ready_again s _ _ _ _ c.requires.ready c.loop-round.invariant.swept in
-    search std_rules
+sweep::sweep_again-sweep_inside-requires = bodies.sweep_again-sweep_inside-requires
 
 pub sweep::sweep_again-loop-round-preserved : goal.sweep::sweep_again-loop-round-preserved
-sweep::sweep_again-loop-round-preserved t c = record { swept = swept_more c.args.subject.now _ _ _ _ _ c.loop-round.invariant.swept c.in_ok-sweep_inside.ensures.swept }
+sweep::sweep_again-loop-round-preserved = bodies.sweep_again-loop-round-preserved
 
 pub sweep::sweep_simple-returns-then-not-is_news : goal.sweep::sweep_simple-returns-then-not-is_news
 sweep::sweep_simple-returns-then-not-is_news t c = record { swept = swept_more c.args.subject.now _ _ _ _ _ c.in_ok-sweep_held.ensures.swept c.in_ok-lower_behind.ensures.swept }
