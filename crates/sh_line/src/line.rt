@@ -22,13 +22,13 @@ const AFTER_HELP: &str = "\
 Exit status:
   0  clean, or a certificate or a script was printed
   1  findings, or a certificate that claims too much
-  2  refused: the script was not read or not analysed
+  2  refused: a script or a certificate was not read, or not analysed
   3  a fault of usage, reading, writing or memory
 
 Findings:
   U1, U2, U3  a parameter may be unset: in an expansion, a tilde, arithmetic
   Q1          a value outside quotes may be split, or taken for a pattern
-  P1, P2      a part of a pipeline may unset a variable, or changes the operands
+  P1, P2      a part of a pipeline may unset a name, or changes the operands
 
 Examples:
   shset lint deploy.sh HOME PATH   HOME and PATH are set when the script starts
@@ -111,7 +111,7 @@ fn args_arg<'a>(alloc: Global) -> Arg<'a>
         .value_name("N")
         .value_parser(clap::value_parser!(u16))
         .default_value("0")
-        .help("How many positional parameters are set at least when the script starts")
+        .help("At least how many positional parameters are set when the script starts")
 }
 
 fn full_arg<'a>(alloc: Global) -> Arg<'a>
