@@ -539,6 +539,7 @@ LINED = {
     "functions taken back": of(each("fN() { unset -f fK; a && fK; }\n"), "f0\n"),
     "functions lost": of(each("fN() { :; }\n"), "while a; do\n", each("unset -f fN\n"), "done\n"),
     "recursion": of(each("vN=x\n", 1500), each("fN() { fM || fK; unset vN; }\n", 1500), "f0\n"),
+    "recursion to the next": of(each("vN=x\n", 1500), each("fN() { fK || fM; unset vN; }\n", 1500), "f0\n"),
     "defined again": of(each("f() { vN=1; }\nf\n")),
     "defined again, then called": of(each("f() { unset vN; }\n"), each("f\n")),
     "defined again between": of(each("f() { unset vN; a || f; }\nf\nvN=\n")),
