@@ -7,12 +7,12 @@ _shset() {
     fi
     for ((index = 2; index < COMP_CWORD; index++)); do
         case ${COMP_WORDS[index]} in
-            --args) index=$((index + 1)) ;;
-            --* | =) ;;
+            --args) [ "${COMP_WORDS[++index]-}" != = ] || index=$((index + 1)) ;;
+            --*) ;;
             *) operands=$((operands + 1)) ;;
         esac
     done
-    [ "${COMP_WORDS[COMP_CWORD - 1]}" != --args ] || return
+    case ${COMP_WORDS[COMP_CWORD - 1]} in --args | =) return ;; esac
     case $word in
         -?*) mapfile -t COMPREPLY < <(compgen -W '--args --help --full' -- "$word") ;;
         *)

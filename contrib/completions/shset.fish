@@ -26,7 +26,7 @@ complete -c shset -n __fish_use_subcommand -a check -d 'Prints what is wrong wit
 complete -c shset -n __fish_use_subcommand -a print -d 'Prints a script in one layout, without its comments'
 complete -c shset -n __fish_use_subcommand -s h -l help -d 'Print help'
 complete -c shset -n __fish_use_subcommand -s V -l version -d 'Print version'
-complete -c shset -n '__fish_seen_subcommand_from lint cert check' -l args -x -d 'How many positional parameters are set at least when the script starts; 0 if it is not given'
+complete -c shset -n '__fish_seen_subcommand_from lint cert check' -l args -x -d 'At least how many positional parameters are set when the script starts; 0 if it is not given'
 complete -c shset -n '__fish_seen_subcommand_from lint cert check print' -s h -l help -d 'Print help'
 complete -c shset -n '__fish_seen_subcommand_from cert' -l full -d 'Prints what is claimed round each command too'
 complete -c shset -n __shset_takes_file -F
