@@ -81,7 +81,9 @@ impl Waiting {
         ensures inner { result.inner ≡ waits_inside self.old command }
         ensures taken { (k : ℕ) → waits self.new k ≡ (not (k == command) && waits self.old k) }
         ensures entered { (k : ℕ) → waits_inside self.new k ≡ (not (k == command) && waits_inside self.old k) }
+        ensures limit { limit self.new ≡ limit self.old }
         ensures place { self.new.commands.places.items ≡ slice_set self.old.commands.places.items command self.old.inside }
+        ensures rest { self.new ≡ record self.old { commands = self.new.commands } }
     {
         self.commands.look(command, self.inside)
     }
@@ -91,7 +93,9 @@ impl Waiting {
     pub fn hold(&mut self, command: u32)
         ensures waits { (k : ℕ) → waits self.new k ≡ ((k == command && nat_lt command (limit self.old)) || waits self.old k) }
         ensures entered { (k : ℕ) → waits_inside self.new k ≡ waits_inside self.old k }
-        ensures units { self.new.units ≡ self.old.units }
+        ensures limit { limit self.new ≡ limit self.old }
+        ensures places { self.new.commands.places ≡ self.old.commands.places }
+        ensures rest { self.new ≡ record self.old { commands = self.new.commands } }
     {
         self.commands.hold(command);
     }
@@ -100,7 +104,9 @@ impl Waiting {
     pub fn release(&mut self, command: u32)
         ensures taken { (k : ℕ) → waits self.new k ≡ (not (k == command) && waits self.old k) }
         ensures entered { (k : ℕ) → waits_inside self.new k ≡ waits_inside self.old k }
-        ensures units { self.new.units ≡ self.old.units }
+        ensures limit { limit self.new ≡ limit self.old }
+        ensures places { self.new.commands.places ≡ self.old.commands.places }
+        ensures rest { self.new ≡ record self.old { commands = self.new.commands } }
     {
         self.commands.release(command);
     }
