@@ -1,9 +1,9 @@
 //! A certificate that is lowered.
 ghost use Rattle.std.specs.Prelude.{◌≡◌, IfOk};
 
+use crate::subject::Subject;
 use sh_domain::{Certificate, Facts, RowId, Rows};
 use sh_rows::BitRow;
-use sh_table::CallTable;
 use sh_worklist::Waiting;
 use std::alloc::{AllocError, Global};
 
@@ -39,6 +39,8 @@ pub struct Draft {
     pub entered: u64,
     /// If there are more rows than these, those that no claim has any more are dropped: a hint.
     pub room: usize,
+    /// Whether the script may start a process in the background, which sets `!`: a hint.
+    pub has_jobs: bool,
     /// The commands that wait to be looked at: a hint.
     pub waiting: Waiting,
 }
@@ -60,6 +62,27 @@ const ROWS: usize = 2;
 
 // How often that is doubled at most.
 const MOST_DOUBLED: u32 = 20;
+
+// What of a byte and the one before it may begin an operator or an escape with the next one.
+fn left_of(before: u8, byte: u8) -> u8 {
+    match (before, byte) {
+        (b'\\', _) | (b'&' | b';' | b'<' | b'>', b'&') => b' ',
+        _ => byte,
+    }
+}
+
+// Whether a script may have an item that ends in `&`: one that is not escaped, nor in `&&`, `;&`,
+// `<&` or `>&`.
+fn has_jobs(script: &[u8]) -> bool {
+    let mut before = b' ';
+    for byte in script {
+        if before == b'&' && *byte != b'&' {
+            return true;
+        }
+        before = left_of(before, *byte);
+    }
+    before == b'&'
+}
 
 // So often more for each of so many commands.
 fn after(so_far: u64, commands: usize, times: u64) -> u64 {
@@ -119,7 +142,7 @@ fn size_of(rows: &Rows, id: RowId) -> u64 {
 }
 
 impl Draft {
-    /// A certificate of so many commands, which all wait.
+    /// A certificate of a script whose commands all wait.
     ///
     /// # Errors
     ///
@@ -128,13 +151,13 @@ impl Draft {
         alloc: Global,
         certificate: Certificate,
         probe: BitRow,
-        table: &CallTable<'_>,
-        commands: usize,
+        subject: &Subject<'_>,
     ) -> Result<Draft, AllocError>
         ensures certificate { IfOk result (λ draft. draft.certificate ≡ certificate) }
         ensures probe { IfOk result (λ draft. draft.probe ≡ probe) }
     {
-        let waiting = Waiting::all(alloc, table)?;
+        let commands = subject.commands.len();
+        let waiting = Waiting::all(alloc, subject.table)?;
         Ok(Draft {
             alloc,
             certificate,
@@ -151,6 +174,7 @@ impl Draft {
             again: 0,
             entered: 0,
             room: room_after(0, commands),
+            has_jobs: has_jobs(subject.script),
             waiting,
         })
     }

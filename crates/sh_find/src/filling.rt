@@ -42,13 +42,7 @@ fn filled(alloc: Global, subject: &Subject<'_>) -> Result<Certificate, AllocErro
     let count = subject.names.count();
     let mut probe = BitRow::empty(alloc, count)?;
     let certificate = begun(alloc, subject, &mut probe, commands, functions)?;
-    let mut draft = Draft::new(
-        alloc,
-        certificate,
-        probe,
-        subject.table,
-        subject.commands.len(),
-    )?;
+    let mut draft = Draft::new(alloc, certificate, probe, subject)?;
     draft.rest = 0;
     draft.tires = u64::MAX;
     settle(subject, &mut draft, Way::Once)?;

@@ -151,8 +151,7 @@ fn settled(alloc: Global, subject: &Subject<'_>, way: Way) -> Result<(Certificat
     let functions = subject.table.functions().len();
     let certificate = unreached(alloc, count, subject.commands, functions)?;
     let probe = BitRow::empty(alloc, count)?;
-    let commands = subject.commands.len();
-    let mut draft = Draft::new(alloc, certificate, probe, subject.table, commands)?;
+    let mut draft = Draft::new(alloc, certificate, probe, subject)?;
     settle(subject, &mut draft, way)?;
     let looks = draft.looks;
     Ok((draft.certificate, looks))

@@ -135,12 +135,12 @@ fn sweep_or_pass(
     let waits = item.waits(&draft.waiting);
     if news.passes(item) && !waits {
         pass_by(subject, &*draft, course, news, item);
-        return Ok(news.after(item));
+        return Ok(news.after(item, draft.has_jobs));
     }
     let before = draft.lowered;
     enter_item(subject, draft, levels, around, &*course, item)?;
     let news = if draft.lowered == before {
-        news.after(item)
+        news.after(item, draft.has_jobs)
     } else {
         News::Anything
     };

@@ -29,9 +29,9 @@ impl News {
     }
 
     /// What of it is new after an item in which nothing fell. A process that goes on beside the
-    /// shell sets `!`.
-    pub fn after(self, item: &Item) -> News {
-        if self == News::Nothing || item.background || !is_of_processes(item) {
+    /// shell sets `!`, and a script that starts none never has it.
+    pub fn after(self, item: &Item, has_jobs: bool) -> News {
+        if self == News::Nothing || !has_jobs || item.background || !is_of_processes(item) {
             News::Nothing
         } else {
             News::Job
