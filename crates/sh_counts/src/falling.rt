@@ -25,6 +25,7 @@ struct Falling {
     // The turns of those that wait. Turns go over all counts in an order, round by round: a hint.
     queue: BinaryHeap<Reverse<u64>>,
     order: Order,
+    // Which counts wait. It is empty before there is an order, and then none does.
     waiting: Vec<bool>,
     // The last turn.
     turn: u64,
@@ -33,18 +34,18 @@ struct Falling {
 }
 
 impl Falling {
-    fn new(alloc: Global, most: &[u16], order: Order) -> Result<Falling, AllocError>
+    // Counts that do not wait yet if they fall.
+    fn new(alloc: Global, most: &[u16]) -> Result<Falling, AllocError>
         ensures { IfOk result (λ falling. falling.counts.items ≡ most.now) }
     {
         let counts = Vec::from_slice(alloc, most)?;
         let reasons = vec![in alloc; None::<Equation>; most.len()]?;
-        let waiting = vec![in alloc; false; most.len()]?;
         Ok(Falling {
             counts,
             reasons,
             queue: BinaryHeap::new(alloc),
-            order,
-            waiting,
+            order: Order::none(alloc),
+            waiting: Vec::new(alloc),
             turn: 0,
             falls: 0,
         })
@@ -78,7 +79,7 @@ impl Falling {
         }
     }
 
-    // Puts a count that fell into the queue, unless it is in it.
+    // Puts a count that fell into the queue, unless it is in it or there is no order.
     fn wait(&mut self, index: u32) -> Result<(), AllocError>
         ensures { self.new.counts ≡ self.old.counts }
     {
@@ -170,6 +171,22 @@ impl Falling {
             has_fallen |= self.lower(*equation)?;
         }
         Ok(has_fallen)
+    }
+
+    // Lowers the counts of equations to what these give, and once more if one fell. Most equations
+    // come after those that they take from. Returns whether one fell the second time too, as one
+    // does in a circle.
+    #[tactic(auto, using(crate::proofs::FallLemmas::fell_more))]
+    fn lower_twice(&mut self, equations: &[Equation]) -> Result<bool, AllocError>
+        ensures sound { OnOk result ((es : declared.Equations) → All (Follows es) equations.now → StaysSound es self.old self.new) }
+        ensures fell { OnOk result (Fell self.old.counts.items self.new.counts.items) }
+        ensures less { IfOk result (λ b. b ≡ true → sum self.new.counts.items < sum self.old.counts.items) }
+        ensures settled { IfOk result (λ b. b ≡ false → IsSettled self.new.counts.items equations.now) }
+    {
+        if !self.lower_each(equations)? {
+            return Ok(false);
+        }
+        self.lower_each(equations)
     }
 
     // Lowers the counts of the equations that take from a count.
@@ -399,6 +416,38 @@ impl Falling {
         }
         Ok(())
     }
+
+    // Lowers counts until none waits, in an order of all counts from now on.
+    #[tactic(auto, using(crate::proofs::FallLemmas::fell_more))]
+    fn settle_in_order(
+        &mut self,
+        alloc: Global,
+        users: &Users<'_>,
+        equations: &Equations,
+    ) -> Result<(), AllocError>
+        requires { users.now.equations.now ≡ equations.now.all.items }
+        ensures sound { OnOk result (StaysSound equations.now self.old self.new) }
+        ensures fell { OnOk result (Fell self.old.counts.items self.new.counts.items) }
+    {
+        self.order = Order::of(alloc, users, self.counts.len())?;
+        self.waiting = vec![in alloc; false; self.counts.len()]?;
+        self.lower_each(equations.all())?;
+        self.settle(alloc, users)
+    }
+
+    // Lowers the counts that still fall. Most of them are in a circle, so circles come first.
+    #[tactic(auto, using(crate::proofs::FallLemmas::fell_more))]
+    fn lower_rest(&mut self, alloc: Global, equations: &Equations) -> Result<(), AllocError>
+        ensures sound { OnOk result (StaysSound equations.now self.old self.new) }
+        ensures fell { OnOk result (Fell self.old.counts.items self.new.counts.items) }
+    {
+        let users = Users::of(alloc, equations)?;
+        self.lower_circles(alloc, &users)?;
+        if self.lower_twice(equations.all())? {
+            self.settle_in_order(alloc, &users, equations)?;
+        }
+        Ok(())
+    }
 }
 
 /// The greatest counts that solve all equations, by index.
@@ -409,14 +458,12 @@ impl Falling {
 pub fn solve(alloc: Global, equations: &Equations) -> Result<Vec<u16>, AllocError>
     ensures { IfOk result (λ counts. IsGreatest equations.now counts.items) }
 {
-    let users = Users::of(alloc, equations)?;
-    let order = Order::of(alloc, &users, equations.most().len())?;
-    let mut falling = Falling::new(alloc, equations.most(), order)?;
+    let mut falling = Falling::new(alloc, equations.most())?;
     loop {
-        if !falling.lower_each(equations.all())? {
+        if !falling.lower_twice(equations.all())? {
             break;
         }
-        falling.settle(alloc, &users)?;
+        falling.lower_rest(alloc, equations)?;
     }
     let Falling { counts, .. } = falling;
     Ok(counts)

@@ -13,6 +13,14 @@ pub struct Order {
 }
 
 impl Order {
+    /// The order of no counts.
+    pub fn none(alloc: Global) -> Order {
+        Order {
+            counts: Vec::new(alloc),
+            places: Vec::new(alloc),
+        }
+    }
+
     /// The order of so many counts.
     ///
     /// # Errors
