@@ -1,3 +1,4 @@
+pub mod BlockLemmas
 pub mod DigitLemmas
 pub mod NeedLemmas
 pub mod JudgeLemmas

@@ -236,14 +236,6 @@ none_within f g none within k = go (f k) refl
     go true e = absurd (true≢false (sym (within k e) ∙ none k))
     go false e = e
 
-pub none_told : (names : List Text) (f : ℕ → Bool) (at : ℕ) → ((k : ℕ) → f k ≡ false) → (ps : List Place) (ks : List ℕ) → fold (plain_step names f at) ps ks ≡ ps
-unfolding drop_if
-none_told names f at none ps [] = refl
-none_told names f at none ps (k ∷ ks) =
-    ap (λ (b : Bool). fold (plain_step names f at) (ps ++ drop_if b at (slice_get names k)) ks) (none k)
-    ∙ ap (λ (qs : List Place). fold (plain_step names f at) qs ks) (append-nil ps)
-    ∙ none_told names f at none ps ks
-
 same_told : (names : List Text) (f g : ℕ → Bool) (at : ℕ) → ((k : ℕ) → k < length names → f k ≡ g k) → (ks : List ℕ) → All (λ n. n < length names) ks → (ps : List Place)
     → fold (plain_step names f at) ps ks ≡ fold (plain_step names g at) ps ks
 same_told names f g at same [] a ps = refl

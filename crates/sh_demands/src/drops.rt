@@ -1,7 +1,6 @@
 //! The names that a command may drop: each is reported once, at the start of the command
 //! (XCU 2.9.1, 2.15).
-ghost use Rattle.std.specs.Prelude.{◌≡◌, ◌++◌, ◌<◌, ◌≤◌, ◌&&◌, fold, length, map, slice_get};
-ghost use Rattle.std.specs.List.{All};
+ghost use Rattle.std.specs.Prelude.{◌≡◌, ◌++◌, ◌<◌, ◌≤◌, ◌&&◌, ℕ, fold, length, map, nat_lt, not, slice_get};
 ghost use Rattle.sh_tree.specs.declared.limits.TheConstants.{MAX_NAMES};
 ghost use Rattle.sh_tree.specs.standard.language.Bytes as bytes;
 ghost use Rattle.sh_tree.specs.Lists.{elements_from};
@@ -10,18 +9,20 @@ ghost use Rattle.sh_runs.specs.standard.runs.Environment.{is_one_of};
 ghost use Rattle.sh_domain.specs.Certificates as claims;
 ghost use Rattle.sh_domain.specs.Knowledge.{AreNumbered};
 ghost use Rattle.sh_domain.specs.NumberSets.{numbers_of};
+ghost use Rattle.sh_demands.specs.Blocks.{block_of};
 ghost use Rattle.sh_demands.specs.Drops as spec;
 ghost use Rattle.sh_demands.specs.DropWalks as walks;
 ghost use Rattle.sh_gains.specs.Knowing.{knowing};
 ghost use Rattle.sh_gains.specs.Statics.{listed};
 ghost use Rattle.sh_demands.specs.Reported.{Adds, AddsFirst, AddsSince};
 
+use crate::blocks::Blocks;
 use crate::reports::Reports;
 use sh_domain::{Drops, Names, NumberSet, Rows};
 use sh_gains::Known;
 use sh_operands::unset_operands;
 use sh_table::{CallTable, WordText};
-use sh_tree::{Code, Element, is_name};
+use sh_tree::{Code, Element, MAX_NAMES, is_name};
 
 #[tactic(auto, unfolding(crate::specs::DropWalks::told_if))]
 fn tell_if(is_wanted: bool, name: &[u8], at: u32, start: usize, reports: &mut Reports)
@@ -44,41 +45,71 @@ fn tell_number(number: u32, is_wanted: bool, names: &Names, at: u32, reports: &m
     }
 }
 
+// The numbers that are not in a set.
+fn others_of(set: &NumberSet) -> NumberSet
+    ensures { (k : ℕ) → numbers_of result k ≡ (not (numbers_of set.now k) && nat_lt k MAX_NAMES) }
+{
+    let mut others = NumberSet::below(MAX_NAMES as u32);
+    others.remove(set);
+    others
+}
+
+// The names of a set in a block, if some of its numbers are not among the others.
+fn tell_block(
+    blocks: &Blocks<'_>,
+    index: usize,
+    set: &NumberSet,
+    others: &NumberSet,
+    at: u32,
+    reports: &mut Reports,
+)
+    requires index { index < 64 }
+    requires few { length blocks.now.names.now ≤ MAX_NAMES }
+    requires others { (k : ℕ) → numbers_of others.now k ≡ (not (numbers_of set.now k) && nat_lt k MAX_NAMES) }
+    ensures { Adds reports.old reports.new (λ ps. fold (walks.plain_step blocks.now.names.now (numbers_of set.now) at) ps (block_of index blocks.now.numbers.now)) }
+{
+    if blocks.is_within(index, others) {
+        return;
+    }
+    for number in blocks.get(index) {
+        tell_number(*number, set.has(*number), blocks.names, at, reports);
+    }
+}
+
 // The names of a set. If it has no numbers, none is gone over.
-fn tell_set(numbers: &[u32], names: &Names, set: &NumberSet, at: u32, reports: &mut Reports)
-    requires few { length names.now ≤ MAX_NAMES }
-    requires below { All (λ number. number < length names.now) numbers.now }
-    ensures { Adds reports.old reports.new (λ ps. fold (walks.plain_step names.now (numbers_of set.now) at) ps numbers.now) }
+fn tell_set(blocks: &Blocks<'_>, set: &NumberSet, at: u32, reports: &mut Reports)
+    requires few { length blocks.now.names.now ≤ MAX_NAMES }
+    ensures { Adds reports.old reports.new (λ ps. fold (walks.plain_step blocks.now.names.now (numbers_of set.now) at) ps blocks.now.numbers.now) }
 {
     if set.is_within(&NumberSet::new()) {
         return;
     }
-    for number in numbers {
-        tell_number(*number, set.has(*number), names, at, reports);
+    let others = others_of(set);
+    for index in 0..64 {
+        tell_block(blocks, index, set, &others, at, reports);
     }
 }
 
 /// The variables that a function may drop, and then the functions, each in byte order. No place is
 /// read again.
 pub fn tell_dropped(
-    names: &Names,
+    blocks: &Blocks<'_>,
     rows: &Rows,
     drops: Drops,
     at: u32,
     start: usize,
     reports: &mut Reports,
 )
-    requires { AreNumbered names.now }
-    ensures { AddsFirst start reports.old reports.new (λ ps. spec.all_told (length ps) at ps (claims.names_at (claims.in_byte_order names.now) rows.now drops.vars ++ claims.names_at (claims.in_byte_order names.now) rows.now drops.functions)) }
+    requires { AreNumbered blocks.now.names.now }
+    ensures { AddsFirst start reports.old reports.new (λ ps. spec.all_told (length ps) at ps (claims.names_at (claims.in_byte_order blocks.now.names.now) rows.now drops.vars ++ claims.names_at (claims.in_byte_order blocks.now.names.now) rows.now drops.functions)) }
 {
-    let numbers = names.in_byte_order();
     let mut vars = NumberSet::new();
     vars.join_row(rows, drops.vars);
     let mut functions = NumberSet::new();
     functions.join_row(rows, drops.functions);
     functions.remove(&vars);
-    tell_set(numbers, names, &vars, at, reports);
-    tell_set(numbers, names, &functions, at, reports)
+    tell_set(blocks, &vars, at, reports);
+    tell_set(blocks, &functions, at, reports)
 }
 
 // `unset`

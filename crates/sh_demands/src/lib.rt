@@ -1,6 +1,7 @@
 //! The demands of a script that a certificate leaves unmet.
 #![tactic(auto)]
 
+mod blocks;
 mod demands;
 mod drops;
 pub mod laws;

@@ -14,6 +14,7 @@ ghost use Rattle.sh_gains.specs.Knowing.{knowing};
 ghost use Rattle.sh_demands.specs.Places.{function_drops, known_before, known_behind, source_of};
 ghost use Rattle.sh_demands.specs.Reported.{AddsFirst};
 
+use crate::blocks::Blocks;
 use crate::drops::tell_dropped;
 use crate::reports::Reports;
 use sh_domain::{Certificate, Drops, Facts, Knowledge, Names};
@@ -26,7 +27,7 @@ use std::marker::Model;
 /// table of the script.
 #[derive(Drop)]
 pub struct Source<'a, 's> {
-    names: &'a Names,
+    blocks: Blocks<'a>,
     certificate: &'a Certificate,
     calls: &'a CallTable<'s>,
     script: &'a [u8],
@@ -37,9 +38,9 @@ impl<'a, 's> Model for Source<'a, 's> {
 
     ghost Value = { places.Source };
 
-    ghost view = { λ s. places.source_of s.names.now s.certificate.now s.calls.now };
+    ghost view = { λ s. places.source_of s.blocks.names.now s.certificate.now s.calls.now };
 
-    ghost invariant = { λ s. places.IsSource s.names.now s.calls.now s.script.now };
+    ghost invariant = { λ s. places.IsSource s.blocks.names.now s.calls.now s.script.now };
 }
 
 impl<'a, 's> Source<'a, 's> {
@@ -55,7 +56,7 @@ impl<'a, 's> Source<'a, 's> {
         ensures { result ≡ source_of names.now certificate.now calls.now }
     {
         Source {
-            names,
+            blocks: Blocks::new(names),
             certificate,
             calls,
             script,
@@ -69,7 +70,7 @@ impl<'a, 's> Source<'a, 's> {
     {
         let facts = facts_before(self.certificate, number);
         Known {
-            names: self.names,
+            names: self.blocks.names,
             knowledge: Knowledge::claimed(&self.certificate.rows, &facts),
         }
     }
@@ -118,7 +119,7 @@ impl<'a, 's> Source<'a, 's> {
         match drops_at(self.certificate, function) {
             Some(drops) => {
                 tell_dropped(
-                    self.names,
+                    &self.blocks,
                     &self.certificate.rows,
                     drops,
                     at,

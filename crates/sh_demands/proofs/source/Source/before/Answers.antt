@@ -7,7 +7,7 @@ use Rattle.sh_demands.proofs.source.Source.before.Goals as goal
 
 pub returns : goal.returns
 returns c =
-    let names = c.self.inside.names.now in
+    let names = c.self.inside.blocks.names.now in
     let certificate = c.self.inside.certificate.now in
     rw (← c.self.view_is)
     (knowing_same names _ _
