@@ -54,7 +54,8 @@ impl Waiting {
 
     /// Has all commands wait, and the units that were gone over.
     pub fn wait_all(&mut self)
-        ensures { (k : ℕ) → waits self.new k ≡ nat_lt k (limit self.old) }
+        ensures waits { (k : ℕ) → waits self.new k ≡ nat_lt k (limit self.old) }
+        ensures rest { self.new ≡ record self.old { commands = self.new.commands; units = self.new.units } }
     {
         self.commands.wait_all();
         self.units.wait_all();
@@ -151,10 +152,10 @@ impl Waiting {
         alloc: Global,
         table: &CallTable<'_>,
     ) -> Result<Option<Unit>, AllocError>
-        ensures commands { self.new.commands ≡ self.old.commands }
         ensures taken { (k : ℕ) → bodies.does_wait self.new.units k ≡ (not (bodies.gives_outside result && (k == 0)) && bodies.does_wait self.old.units k) }
         ensures none { IfOk result (λ unit. unit ≡ None → bodies.does_wait self.old.units 0 ≡ false) }
         ensures seen { IfOk result (λ unit. unit ≡ None → HoldsNowhere (bodies.is_unseen self.old.units) 0 (2 ^ 32)) }
+        ensures rest { self.new ≡ record self.old { units = self.new.units } }
     {
         self.units.next(alloc, table, &self.commands)
     }
@@ -167,8 +168,8 @@ impl Waiting {
     pub fn wait(&mut self, command: u32) -> Result<(), AllocError>
         ensures waits { (k : ℕ) → waits self.new k ≡ ((k == command && nat_lt command (limit self.old)) || waits self.old k) }
         ensures limit { limit self.new ≡ limit self.old }
-        ensures calls { self.new.calls ≡ self.old.calls }
         ensures unit { (k : ℕ) → bodies.does_wait self.new.units k ≡ ((not (waits self.old command) && (k == bodies.number_of (place_in self.old.commands.places.items command).unit) && nat_lt k (bodies.limit self.old.units)) || bodies.does_wait self.old.units k) }
+        ensures rest { self.new ≡ record self.old { commands = self.new.commands; units = self.new.units } }
     {
         wait_one(&mut self.commands, &mut self.units, command)
     }
@@ -179,7 +180,8 @@ impl Waiting {
     ///
     /// If a growth was refused.
     pub fn wait_calls(&mut self, function: usize) -> Result<(), AllocError>
-        ensures { OnOk result ((k : ℕ) → waits self.new k ≡ ((has_number k (callers_in self.old.calls function) && nat_lt k (limit self.old)) || waits self.old k)) }
+        ensures waits { OnOk result ((k : ℕ) → waits self.new k ≡ ((has_number k (callers_in self.old.calls function) && nat_lt k (limit self.old)) || waits self.old k)) }
+        ensures rest { self.new ≡ record self.old { commands = self.new.commands; units = self.new.units } }
     {
         let callers = self.calls.callers(function);
         wait_each(&mut self.commands, &mut self.units, callers)
@@ -191,7 +193,7 @@ impl Waiting {
     ///
     /// If a growth was refused.
     pub fn wait_bodies(&mut self, definitions: &[u32]) -> Result<(), AllocError>
-        ensures commands { self.new.commands ≡ self.old.commands }
+        ensures rest { self.new ≡ record self.old { units = self.new.units } }
         ensures bodies { OnOk result ((k : ℕ) → bodies.does_wait self.new.units k ≡ ((has_number k definitions.now && nat_lt k (bodies.limit self.old.units)) || bodies.does_wait self.old.units k)) }
     {
         for number in definitions {
