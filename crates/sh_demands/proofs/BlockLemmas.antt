@@ -1,8 +1,10 @@
 -- The numbers of the names in byte order, in blocks of 64.
-use Rattle.std.proofs.Common.{◌≡◌, ℕ, suc, ◌+◌, ◌-◌, ◌*◌, ◌<◌, ◌==◌, min, Bool, true, false, not, ◌&&◌, if◌then◌else◌, List, [], ◌∷◌, ◌++◌, append-nil, fold, length, map, slice_get, refl, sym, ap, ◌∙◌, arith, inl, inr, true≢false, take, drop, take_all, take-add, length-drop}
-use Rattle.std.proofs.lemmas.Bool.{cases_lt, eq-eqb, or_left, or_right}
+use Rattle.std.proofs.Common.{◌≡◌, ℕ, zero, suc, Some, set, subst, ⊎_elim, ◌+◌, ◌-◌, ◌*◌, ◌<◌, ◌==◌, min, Bool, true, false, not, ◌&&◌, if◌then◌else◌, List, [], ◌∷◌, ◌++◌, append-nil, fold, length, map, slice_get, refl, sym, ap, ◌∙◌, arith, inl, inr, true≢false, take, drop, take_all, take-add, length-drop}
+use Rattle.std.proofs.lemmas.Bool.{cases_eq, cases_lt, eq-eqb, or_left, or_right}
 use Rattle.std.proofs.lemmas.List.{drop_all, length-map}
 use Rattle.std.proofs.lemmas.List.Sums.{fold-append}
+use Rattle.std.proofs.lemmas.Option.{same_Some}
+use Rattle.std.specs.Option.{ForSome}
 use Rattle.sh_rows.specs.Numbers.{has_number}
 use Rattle.sh_tree.specs.declared.place.Place.{Place}
 use Rattle.sh_tree.specs.standard.program.Syntax.{Text}
@@ -31,6 +33,25 @@ block_is ns i start end s e = elim (cases_lt (64 * i) (length ns)) [
       | inl few ↦ take_all (end - start) rest (omega (arith, length-drop (64 * i) ns, s, e, l, here, few)) ∙ sym (take_all 64 rest (omega (arith, few)))
       | inr many ↦ let whole : end - start ≡ 64 = omega (arith, length-drop (64 * i) ns, s, e, l, here, many) in ap (λ n. take n rest) whole
     ]
+
+-- ---- a set that is put
+put_at : {A : Type 0} (xs : List A) (n : ℕ) (y x : A) → slice_get (set xs n y) n ≡ Some x → x ≡ y
+put_at [] n y x h = cc
+put_at (z ∷ xs) zero y x h = sym (same_Some y x h)
+put_at (z ∷ xs) (suc n) y x h = put_at xs n y x h
+
+put_elsewhere : {A : Type 0} (xs : List A) (n i : ℕ) (y : A) → (i ≡ n → ⊥) → slice_get (set xs n y) i ≡ slice_get xs i
+put_elsewhere [] n i y ne = refl
+put_elsewhere (x ∷ xs) zero zero y ne = absurd (ne refl)
+put_elsewhere (x ∷ xs) zero (suc i) y ne = refl
+put_elsewhere (x ∷ xs) (suc n) zero y ne = refl
+put_elsewhere (x ∷ xs) (suc n) (suc i) y ne = put_elsewhere xs n i y (λ e. ne (ap suc e))
+
+pub one_more_put : {A : Type 0} (P : ℕ → A → Type 0) (xs : List A) (n : ℕ) (y : A) → ((i : ℕ) → i < n → ForSome (slice_get xs i) (P i)) → P n y → (i : ℕ) → i < n + 1 → ForSome (slice_get (set xs n y) i) (P i)
+one_more_put P xs n y before here i lt x is = ⊎_elim
+    (λ (e : i ≡ n). subst (λ j. P j x) (sym e) (subst (P n) (sym (put_at xs n y x (subst (λ j. slice_get (set xs n y) j ≡ Some x) e is))) here))
+    (λ (ne : i ≡ n → ⊥). before i (omega (arith, ne)) x (sym (put_elsewhere xs n i y ne) ∙ is))
+    (cases_eq i n)
 
 -- ---- numbers none of which is wanted
 pub none_of : (names : List Text) (f : ℕ → Bool) (at : ℕ) (ks : List ℕ) → ((k : ℕ) → has_number k ks ≡ true → f k ≡ false) → (ps : List Place) → fold (plain_step names f at) ps ks ≡ ps

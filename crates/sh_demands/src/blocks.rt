@@ -1,5 +1,5 @@
 //! The names of a script in byte order, in blocks.
-ghost use Rattle.std.specs.Prelude.{◌≡◌, ◌<◌, ◌≤◌, ℕ, true, length, map};
+ghost use Rattle.std.specs.Prelude.{◌≡◌, ◌<◌, ◌≤◌, ◌↔◌, ℕ, IsTrue, true, length, map};
 ghost use Rattle.std.specs.List.{All};
 ghost use Rattle.sh_rows.specs.Numbers.{has_number};
 ghost use Rattle.sh_tree.specs.declared.limits.TheConstants.{MAX_NAMES};
@@ -71,7 +71,7 @@ impl<'a> Blocks<'a> {
     /// Whether each number of a block is in a set.
     pub fn is_within(&self, index: usize, set: &NumberSet) -> bool
         requires { index < 64 }
-        ensures { result ≡ true → (k : ℕ) → has_number k (block_of index self.now.numbers.now) ≡ true → numbers_of set.now k ≡ true }
+        ensures { IsTrue result ↔ ((k : ℕ) → has_number k (block_of index self.now.numbers.now) ≡ true → numbers_of set.now k ≡ true) }
     {
         let sets = &self.sets;
         sets[index].is_within(set)

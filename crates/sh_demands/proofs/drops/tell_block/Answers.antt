@@ -12,5 +12,5 @@ returns-then-is_within c = λ ps h.
     let wanted = numbers_of a.set.now in
     subst (HasReported a.reports.now)
     (sym (none_of a.blocks.now.names.now wanted a.at (block_of a.index a.blocks.now.numbers.now)
-    (λ k here. not_wanted (wanted k) (nat_lt k 4096) (numbers_of a.others.now k) (c.requires.others k) (c.is_within.ensures c.if-is_within.true k here)) ps))
+    (λ k here. not_wanted (wanted k) (nat_lt k 4096) (numbers_of a.others.now k) (c.requires.others k) (c.is_within.ensures.0 c.if-is_within.true k here)) ps))
     h
