@@ -415,6 +415,16 @@ def of(*parts):
     return made
 
 
+def falling(opens, text, closes):
+    """A text for each of so many names, from the last in byte order to the first, and again from the last."""
+
+    def made(size):
+        count = max(1, (size - len(opens) - len(closes)) // (len(text) + 3))
+        return opens + "".join(text.replace("N", f"{9999 - number % MOST_NAMES}") for number in range(count)) + closes
+
+    return made
+
+
 def within(opens, middle, closes, depth):
     """A line of so many levels."""
     return opens * depth + middle + closes * depth + "\n"
@@ -470,6 +480,9 @@ LINED = {
     "default in default": of(each('echo "' + "${a:-" * 30 + "x" + "}" * 30 + '"\n')),
     "assigned by default": of(": ", each('"${vN:=x}" '), "\n"),
     "default used": of(": ", each('"${vN:=x}" "$vM" '), "\n"),
+    "names that fall": falling("", "vN=\n", ""),
+    "names that fall in a line": falling("", "vN= ", "\n"),
+    "names that fall in a sum": falling(": $((1", "+vN", "))\n"),
     "sums": of(each("echo $((1+2*(3-4)))\n")),
     "sums in sums": of(each("echo " + "$(( " * 30 + "1" + " ))" * 30 + "\n")),
     "parentheses": of(each("echo $((" + "(" * 30 + "1" + ")" * 30 + "))\n")),

@@ -14,7 +14,7 @@ pub mod FilledLemmas
 pub mod MonotoneLemmas
 pub mod NameLemmas
 pub mod OrderLemmas
-pub mod PlaceLemmas
+pub mod ByteOrderLemmas
 pub mod RoundTripLemmas
 pub mod RowLemmas
 pub mod PolicyLemmas

@@ -205,7 +205,7 @@ placed_each P (y ∷ ys) x h a = go (precedes x.1 y.1) (placed_each P ys x h a.1
     go true r = (h, a)
     go false r = (a.0, r)
 
-folded_each : (P : ℕ × Text → Type 0) (acc xs : List (ℕ × Text)) → AllByRecursion P acc → AllByRecursion P xs → AllByRecursion P (fold placed acc xs)
+pub folded_each : (P : ℕ × Text → Type 0) (acc xs : List (ℕ × Text)) → AllByRecursion P acc → AllByRecursion P xs → AllByRecursion P (fold placed acc xs)
 folded_each P acc [] a h = a
 folded_each P acc (x ∷ xs) a h = folded_each P (placed acc x) xs (placed_each P acc x h.0 a) h.1
 

@@ -1,9 +1,8 @@
 -- The text of a certificate, a piece at a time.
-use Rattle.std.proofs.Common.{◌≡◌, ℕ, zero, suc, ◌+◌, ◌<◌, ◌≤◌, nat_eq, Bool, true, false, not, ◌&&◌, cond, if◌then◌else◌, List, [], ◌∷◌, ◌++◌, length, get_or, take, map, fold, append_assoc, append-nil, Option, Some, slice_get, Result, Ok, Err, IfOk, Vec, Global, refl, subst, sym, ap, ap₂, ◌∙◌, arith}
-use Rattle.std.specs.List.{All, filter, insert, position_or_len}
+use Rattle.std.proofs.Common.{◌≡◌, ℕ, zero, suc, ◌+◌, ◌<◌, ◌≤◌, nat_eq, Bool, true, false, not, ◌&&◌, if◌then◌else◌, List, [], ◌∷◌, ◌++◌, length, get_or, take, map, fold, append_assoc, append-nil, Option, Some, slice_get, Result, Ok, Err, IfOk, Vec, Global, refl, subst, sym, ap, ap₂, ◌∙◌, arith}
+use Rattle.std.specs.List.{All, filter}
 use Rattle.std.proofs.lemmas.List.{get_or-map, map-append, length-map, take_more, take_all}
 use Rattle.std.proofs.lemmas.List.Elements.{All-cons, All-head, All-map, All-nil, All-tail, All-weaker, filter-append}
-use Rattle.std.proofs.lemmas.List.Sums.{fold-append, prefix_len-le-length}
 use Rattle.std.proofs.lemmas.Option.{get_or_from_slice_get, slice_get_within}
 use Rattle.indexmap.specs.IndexMap.{get}
 use Rattle.sh_tree.specs.standard.program.Syntax.{Text}
@@ -20,22 +19,6 @@ use Rattle.sh_domain.specs.Sheets.{precedes, joined, names_text, line, first_lin
 
 -- Names in rising byte order
 
-inserted_step : (y : Numbered) (ys : List Numbered) (x : Numbered) (n : ℕ) (b : Bool) → map pair_of (insert ys n x) ≡ placed (map pair_of ys) (pair_of x)
-    → map pair_of (insert (y ∷ ys) (cond (not b) (1 + n) 0) x) ≡ (if b then pair_of x ∷ pair_of y ∷ map pair_of ys else pair_of y ∷ placed (map pair_of ys) (pair_of x))
-inserted_step y ys x n true h = refl
-inserted_step y ys x n false h = let e : 1 + n ≡ suc n = omega arith in rw e (ap (λ zs. pair_of y ∷ zs) h)
-
-abbrev place : Numbered → List Numbered → ℕ
-place x xs = position_or_len (λ other. precedes x.name.now other.name.now) xs
-
-inserted : (xs : List Numbered) (x : Numbered) → map pair_of (insert xs (place x xs) x) ≡ placed (map pair_of xs) (pair_of x)
-unfolding placed
-inserted [] x = refl
-inserted (y ∷ ys) x = inserted_step y ys x (place x ys) (precedes x.name.now y.name.now) (inserted ys x)
-
-pub within_place : (p : Numbered → Bool) (xs : List Numbered) → position_or_len p xs ≤ length xs
-within_place p xs = prefix_len-le-length (λ x. not (p x)) xs
-
 length_numbered : (k : ℕ) (ts : List Text) → length (numbered k ts) ≡ length ts
 unfolding numbered
 length_numbered k [] = refl
@@ -47,20 +30,16 @@ at_numbered k i n [] t d e h = let l : i < 0 = slice_get_within [] i t h in absu
 at_numbered k zero n (x ∷ ts) t d e h = let same : x ≡ t = cc in let number : k ≡ n = omega arith in ap₂ (λ (m : ℕ) (u : Text). (m, u)) number same
 at_numbered k (suc i) n (x ∷ ts) t d e h = at_numbered (k + 1) i n ts t d (omega arith) h
 
-pub next_in_order : (names : List Text) (i : ℕ) (old new : List Numbered) (x : Numbered) (at : ℕ) → slice_get names i ≡ Some x.name.now → x.number ≡ i
-    → map pair_of old ≡ fold placed [] (take i (numbered 0 names)) → at ≡ position_or_len (λ other. precedes x.name.now other.name.now) old → new ≡ insert old at x
-    → map pair_of new ≡ fold placed [] (take (i + 1) (numbered 0 names))
-next_in_order names i old new x at h e inv p n =
-    let lt : i < length (numbered 0 names) = let l : i < length names = slice_get_within names i x.name.now h in omega (arith, length_numbered 0 names) in
-    let more : take (i + 1) (numbered 0 names) ≡ take i (numbered 0 names) ++ pair_of x ∷ [] =
-    take_more (numbered 0 names) i (pair_of x) lt ∙ ap (λ y. take i (numbered 0 names) ++ y ∷ []) (at_numbered 0 i x.number names x.name.now (pair_of x) (omega arith) h) in
-    ap (map pair_of) (n ∙ ap (λ m. insert old m x) p)
-    ∙ inserted old x
-    ∙ ap (λ o. placed o (pair_of x)) inv
-    ∙ sym (ap (fold placed []) more ∙ fold-append placed [] (take i (numbered 0 names)) (pair_of x ∷ []))
+pub next_numbered : (names : List Text) (i : ℕ) (old : List Numbered) (x : Numbered) → slice_get names i ≡ Some x.name.now → x.number ≡ i
+    → map pair_of old ≡ take i (numbered 0 names) → map pair_of (old ++ x ∷ []) ≡ take (i + 1) (numbered 0 names)
+next_numbered names i old x h e inv =
+    let lt : i < length (numbered 0 names) = let l : i < length names = slice_get_within names i x.name.now h in omega (arith, l, length_numbered 0 names) in
+    map-append pair_of old (x ∷ [])
+    ∙ ap (λ ys. ys ++ pair_of x ∷ []) inv
+    ∙ sym (take_more (numbered 0 names) i (pair_of x) lt ∙ ap (λ y. take i (numbered 0 names) ++ y ∷ []) (at_numbered 0 i x.number names x.name.now (pair_of x) (omega arith) h))
 
-pub whole_order : (names : List Text) (i : ℕ) (order : List Numbered) → length names ≤ i → map pair_of order ≡ fold placed [] (take i (numbered 0 names)) → map pair_of order ≡ in_byte_order names
-whole_order names i order l inv = let all : length (numbered 0 names) ≤ i = omega (arith, length_numbered 0 names) in inv ∙ ap (fold placed []) (take_all i (numbered 0 names) all)
+pub all_numbered : (names : List Text) (i : ℕ) (all : List Numbered) → length names ≤ i → map pair_of all ≡ take i (numbered 0 names) → map pair_of all ≡ numbered 0 names
+all_numbered names i all l inv = let long : length (numbered 0 names) ≤ i = omega (arith, l, length_numbered 0 names) in inv ∙ take_all i (numbered 0 names) long
 
 -- each number has its name
 abbrev IsPlacedIn : List Text → ℕ × Text → Type 0

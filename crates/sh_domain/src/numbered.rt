@@ -1,9 +1,8 @@
 //! Names with their numbers, in rising byte order.
-ghost use Rattle.std.specs.Prelude.{◌≡◌, map, not, IfOk};
-ghost use Rattle.std.specs.List.{position_or_len};
-ghost use Rattle.std.specs.List.Sorted.{IsPartitionedBy};
+ghost use Rattle.std.specs.Prelude.{◌≡◌, true, map, IfOk};
 ghost use Rattle.sh_domain.specs.Sheets as text;
 ghost use Rattle.sh_domain.specs.Certificates as claims;
+ghost use Rattle.sh_domain.specs.Names.{are_distinct};
 ghost use Rattle.sh_domain.specs.Numbered.{pair_of, IsByteOrder};
 
 use crate::name_set::NameSet;
@@ -39,25 +38,25 @@ fn numbers_of(alloc: Global, order: &[Numbered<'_>]) -> Result<Vec<u32>, AllocEr
     Ok(numbers)
 }
 
+// The names with their numbers, in the order of these.
+fn all_of(alloc: Global, names: &NameSet) -> Result<Vec<Numbered<'_>>, AllocError>
+    ensures all { IfOk result (λ all. map pair_of all.items ≡ claims.numbered 0 names.now) }
+    ensures distinct { are_distinct names.now ≡ true }
+{
+    let mut all: Vec<Numbered<'_>> = Vec::new(alloc);
+    for number in 0..names.count() {
+        let name = names.name(number);
+        all.push(Numbered { name, number })?;
+    }
+    Ok(all)
+}
+
 fn in_order(alloc: Global, names: &NameSet) -> Result<Vec<Numbered<'_>>, AllocError>
     ensures { IfOk result (λ order. map pair_of order.items ≡ claims.in_byte_order names.now) }
 {
-    let mut order: Vec<Numbered<'_>> = Vec::new(alloc);
-    for number in 0..names.count() {
-        let name = names.name(number);
-        let at = first_behind(&order, name);
-        order.insert(at, Numbered { name, number })?;
-    }
+    let mut order = all_of(alloc, names)?;
+    order.sort_by_key(|numbered| numbered.name)?;
     Ok(order)
-}
-
-// The index of the first name that this one precedes, or their count, if they are in rising byte
-// order.
-fn first_behind(order: &[Numbered<'_>], name: &[u8]) -> usize
-    requires { IsPartitionedBy (λ other. not (text.precedes name.now other.name.now)) order.now }
-    ensures { result ≡ position_or_len (λ other. text.precedes name.now other.name.now) order.now }
-{
-    order.partition_point(|other| !precedes(name, other.name))
 }
 
 // Whether the first text comes before the second by their bytes.
