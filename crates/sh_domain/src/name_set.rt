@@ -6,6 +6,7 @@ ghost use Rattle.sh_domain.specs.SightWalks.{seen_in, texts_seen};
 use crate::policy::Policy;
 use crate::sights::{Seen, names_seen};
 use indexmap::IndexSet;
+use sh_hash::NameHash;
 use sh_tree::{MAX_NAMES, Refusal, Script, commands};
 use std::alloc::{AllocError, Global};
 use std::marker::Model;
@@ -14,7 +15,7 @@ use std::marker::Model;
 /// each once.
 #[derive(Debug, Drop)]
 pub(crate) struct NameSet {
-    set: IndexSet<Vec<u8>>,
+    set: IndexSet<Vec<u8>, NameHash>,
 }
 
 impl Model for NameSet {
@@ -48,7 +49,7 @@ impl NameSet {
     {
         let seen = names_in(alloc, tree, script)?;
         let mut names = NameSet {
-            set: IndexSet::new(alloc),
+            set: IndexSet::with_hasher(alloc, NameHash::of(script)),
         };
         names.add_texts(&[b"IFS", b"OPTIND", b"PPID", b"OPTARG", b"!"])?;
         names.add_declared(policy.names())?;

@@ -8,6 +8,7 @@ ghost use Rattle.sh_table.specs.Found as found;
 ghost use Rattle.sh_runs.specs.Sites.{Site};
 
 use indexmap::IndexSet;
+use sh_hash::NameHash;
 use sh_tree::Span;
 use std::alloc::{AllocError, Global};
 use std::marker::Model;
@@ -22,7 +23,7 @@ pub struct Definition {
 /// The names of functions, and for each the numbers of the commands that define it.
 #[derive(Drop)]
 pub struct Functions {
-    names: IndexSet<Vec<u8>>,
+    names: IndexSet<Vec<u8>, NameHash>,
     definitions: Vec<Vec<u32>>,
 }
 
@@ -39,12 +40,12 @@ impl Model for Functions {
 }
 
 impl Functions {
-    /// No functions.
-    pub fn none(alloc: Global) -> Functions
+    /// No functions of a script.
+    pub fn none(alloc: Global, script: &[u8]) -> Functions
         ensures { result ≡ functions_in [] [] }
     {
         Functions {
-            names: IndexSet::new(alloc),
+            names: IndexSet::with_hasher(alloc, NameHash::of(script)),
             definitions: Vec::new(alloc),
         }
     }
@@ -61,7 +62,7 @@ impl Functions {
     ) -> Result<Functions, AllocError>
         ensures { (ss : List Site) → map (found.definition_in script.now) definitions.now ≡ filter_map found.definition_of ss → IfOk result (λ functions. functions ≡ functions_of ss) }
     {
-        let mut functions = Functions::none(alloc);
+        let mut functions = Functions::none(alloc, script);
         for definition in definitions {
             functions.add(alloc, definition.name.text(script), definition.number)?;
         }

@@ -233,7 +233,7 @@ impl<'s> CallTable<'s> {
     fn empty(alloc: Global, script: &'s [u8]) -> CallTable<'s>
         ensures { (t : Script) → (out-Script t).items ≡ [] → result ≡ calls.table_of script.entry.now t }
     {
-        let functions = Functions::none(alloc);
+        let functions = Functions::none(alloc, script);
         let rows = Vec::new(alloc);
         let callees = Vec::new(alloc);
         let named = Vec::new(alloc);

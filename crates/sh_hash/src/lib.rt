@@ -1,0 +1,6 @@
+//! The hash of names.
+#![tactic(auto)]
+
+mod name_hash;
+
+pub use name_hash::NameHash;

@@ -1,0 +1,31 @@
+//! The hash of the names of a script.
+use std::hash::{BuildHasher, DefaultHasher, FoldHasher, Hasher};
+
+/// Makes hashers of names. Each begins with a state that all bytes of the script decide. So whoever
+/// chooses names that collide changes the state, and they collide no longer. It is a hint: no
+/// answer depends on it.
+#[derive(Clone, Copy)]
+pub struct NameHash {
+    initial: FoldHasher,
+}
+
+impl NameHash {
+    /// For the names of a script.
+    pub fn of(script: &[u8]) -> NameHash {
+        let mut text = DefaultHasher::new();
+        text.write(script);
+        let mut initial = FoldHasher::default();
+        initial.write_u64(text.finish());
+        NameHash { initial }
+    }
+}
+
+impl BuildHasher for NameHash {
+    type Hasher = FoldHasher;
+
+    ghost build_hasher = { λ h. h.initial };
+
+    fn build_hasher(&self) -> FoldHasher {
+        self.initial
+    }
+}
