@@ -4,6 +4,7 @@ bench/measure.py times them all, and tests/families holds each to a limit.
 """
 
 import random
+from pathlib import Path
 
 MOST_COMMANDS = 65_000
 MOST_NAMES = 3_900
@@ -425,6 +426,15 @@ def falling(opens, text, closes):
     return made
 
 
+def of_one_hash(size):
+    """Functions whose names had one hash before it took the script, each called some eight times."""
+    names = (Path(__file__).parent / "names_of_one_hash.txt").read_text().split()
+    chosen = names[: max(2, size // 40)]
+    definitions = "".join(f"{name}() {{ a; }}\n" for name in chosen)
+    calls = range((size - len(definitions)) // 6)
+    return definitions + "".join(f"{chosen[call % len(chosen)]}\n" for call in calls)
+
+
 def within(opens, middle, closes, depth):
     """A line of so many levels."""
     return opens * depth + middle + closes * depth + "\n"
@@ -480,6 +490,7 @@ LINED = {
     "default in default": of(each('echo "' + "${a:-" * 30 + "x" + "}" * 30 + '"\n')),
     "assigned by default": of(": ", each('"${vN:=x}" '), "\n"),
     "default used": of(": ", each('"${vN:=x}" "$vM" '), "\n"),
+    "names of one hash": of_one_hash,
     "names that fall": falling("", "vN=\n", ""),
     "names that fall in a line": falling("", "vN= ", "\n"),
     "names that fall in a sum": falling(": $((1", "+vN", "))\n"),
