@@ -376,6 +376,24 @@ def long_function(piece, before=""):
     return of
 
 
+def two_ways(there, back, is_crosswise):
+    """Two definitions of each function: one calls the next (K), one that before it or across (J), by which a name is lost. `all` sets all names."""
+
+    def made(size):
+        sample = f"v1000=1\n{there}\n{back}"
+        for letter in "NKJ":
+            sample = sample.replace(letter, "1000")
+        count = count_of(size, sample)
+        last = count - 1
+        across = [last - n if 2 * n < last else min(count - n, last) for n in range(count)]
+        before = across if is_crosswise else [max(0, n - 1) for n in range(count)]
+        ahead = [there.replace("N", str(n)).replace("K", str(min(n + 1, last))) for n in range(count)]
+        behind = [back.replace("N", str(n)).replace("J", str(before[n])) for n in range(count)]
+        return text_of(["all() {", *(f"v{n}=1" for n in range(count)), "}", *ahead, *behind, "all", "f0"])
+
+    return made
+
+
 def call_waves(order):
     """A chain of calls that is entered everywhere, each time with a parameter less."""
 
@@ -563,6 +581,10 @@ LINED = {
     "functions taken back": of(each("fN() { unset -f fK; a && fK; }\n"), "f0\n"),
     "functions lost": of(each("fN() { :; }\n"), "while a; do\n", each("unset -f fN\n"), "done\n"),
     "recursion": of(each("vN=x\n", 1500), each("fN() { fM || fK; unset vN; }\n", 1500), "f0\n"),
+    "calls both ways": two_ways("fN() { fK; }", "fN() { unset vN; fJ; }", False),
+    "calls crosswise": two_ways("fN() { fK; }", "fN() { unset vN; fJ; }", True),
+    "calls crosswise, set before": two_ways("fN() { all; fK; }", "fN() { unset vN; fJ; }", True),
+    "calls crosswise, set after": two_ways("fN() { a && return; fK; all; }", "fN() { fJ; unset vN; }", True),
     "recursion to the next": of(each("vN=x\n", 1500), each("fN() { fK || fM; unset vN; }\n", 1500), "f0\n"),
     "defined again": of(each("f() { vN=1; }\nf\n")),
     "defined again, then called": of(each("f() { unset vN; }\n"), each("f\n")),

@@ -7,7 +7,7 @@ use crate::place::{Part, Place};
 use crate::subject::Subject;
 use crate::target::Target;
 use sh_domain::{Drops, Facts, RowId};
-use sh_worklist::{Flags, Look, Waiting};
+use sh_worklist::{Flags, Look, Reason, Waiting};
 use std::alloc::AllocError;
 
 // Adds an index to a set. Reports whether it was not there.
@@ -22,6 +22,7 @@ fn wake_bodies(subject: &Subject<'_>, waiting: &mut Waiting, index: u16) -> Resu
     if index as usize >= subject.table.functions().len() {
         return Ok(());
     }
+    waiting.note_fall(Reason::Entered);
     if !is_news(&mut waiting.entered, index) {
         return Ok(());
     }
@@ -31,6 +32,7 @@ fn wake_bodies(subject: &Subject<'_>, waiting: &mut Waiting, index: u16) -> Resu
 
 // Has the callers of the function of an index wait, unless they all do.
 fn wake_callers(waiting: &mut Waiting, index: u16) -> Result<(), AllocError> {
+    waiting.note_fall(Reason::Inside);
     if !is_news(&mut waiting.called, index) {
         return Ok(());
     }

@@ -5,11 +5,13 @@ mod calls;
 mod commands;
 mod flags;
 mod order;
+mod ordered;
 mod units;
 mod waiting;
 
 pub use calls::Calls;
 pub use commands::{Inside, Look};
 pub use flags::Flags;
+pub use ordered::Reason;
 pub use units::{Unit, Units};
 pub use waiting::Waiting;

@@ -9,6 +9,7 @@ ghost use Rattle.sh_worklist.specs.Units as units;
 use crate::commands::Commands;
 use crate::flags::Flags;
 use crate::order::in_order;
+use crate::ordered::{Direction, Ordered, Reason};
 use sh_table::CallTable;
 use std::alloc::{AllocError, Global};
 
@@ -20,6 +21,12 @@ pub enum Unit {
     Body(u32),
 }
 
+// How many courses there are.
+const COURSES: usize = 4;
+
+// To put so many commands in order takes less time than to go over one body.
+const COMMANDS: usize = 8;
+
 // What is left of the first pass: to begin with a body, or to end with one after those that it
 // calls.
 #[derive(Clone, Copy, Debug, PartialEq, Eq)]
@@ -28,19 +35,24 @@ enum Step {
     End(u32),
 }
 
-// How far the first pass over a body is. After its end the body has a place in the order.
+// In which direction bodies that wait are taken, for which reason, and in which order.
 #[derive(Clone, Copy, Debug, PartialEq, Eq)]
-enum Rank {
-    Unseen,
-    Begun,
-    At(u32),
+enum Course {
+    // A command in them waits: those that they call first.
+    CalleesFirst,
+    // Such ones too: the root of each circle of calls first, and then its callers.
+    RootsFirst,
+    // Their functions are entered with less: those that call them first.
+    CallersFirst,
+    // Such ones too: the root of each circle last, and its callers before it.
+    RootsLast,
 }
 
 /// Which units wait, each at most once, and in which order they are next.
 ///
 /// The first pass goes depth first along calls that are reached. Its ends are the order of the
 /// bodies until they are put in order by all calls. Then bodies in which a command waits are taken
-/// upwards in this order until there are none, and bodies that are entered with less downwards.
+/// in both orders by turns until there are none, and so are bodies that are entered with less.
 #[derive(Drop)]
 pub struct Units {
     // By the numbers of definitions, and by 0 the commands outside.
@@ -49,18 +61,19 @@ pub struct Units {
     unseen: Flags,
     // The last is next.
     steps: Vec<Step>,
-    ranks: Vec<Rank>,
-    order: Vec<u32>,
-    // The places in the order of the bodies in which a command waits.
-    inside: Flags,
-    // The places in the order of the bodies that are entered with less.
-    entered: Flags,
+    by_calls: Ordered,
+    by_callers: Ordered,
+    course: Course,
     cursor: u32,
-    is_rising: bool,
-    // No call goes again over a body whose place is below this.
+    // No call goes again over a body whose place by calls is below this.
     once: u32,
-    // If there are more bodies in the order, they are put in order anew.
+    // If more bodies have a place, they are put in order anew.
     most: usize,
+    // After so many bodies more they are put in order anew.
+    left: usize,
+    // The definitions in which something fell since then so that others wait, for each reason.
+    falls: Flags,
+    entries: Flags,
 }
 
 impl Units {
@@ -80,44 +93,28 @@ impl Units {
             waiting,
             unseen: definitions(alloc, table, count)?,
             steps: Vec::new(alloc),
-            ranks: vec![in alloc; Rank::Unseen; count]?,
-            order: Vec::new(alloc),
-            inside: Flags::none(alloc, count)?,
-            entered: Flags::none(alloc, count)?,
+            by_calls: Ordered::none(alloc, count)?,
+            by_callers: Ordered::none(alloc, count)?,
+            course: Course::CalleesFirst,
             cursor: 0,
-            is_rising: true,
             once: 0,
             most: 0,
+            left: usize::MAX,
+            falls: Flags::none(alloc, count)?,
+            entries: Flags::none(alloc, count)?,
         })
     }
 
     /// Has all units wait that have a place in the order, and the commands outside.
     #[tactic(auto, using(crate::proofs::WaitLemmas::one_more))]
     pub fn wait_all(&mut self)
-        ensures waiting { (k : ℕ) → does_wait self.new k ≡ (((has_number k self.old.order.items || (k == 0)) && nat_lt k (limit self.old)) || does_wait self.old k) }
+        ensures waiting { (k : ℕ) → does_wait self.new k ≡ (((has_number k self.old.by_calls.bodies.items || (k == 0)) && nat_lt k (limit self.old)) || does_wait self.old k) }
         ensures unseen { self.new.unseen ≡ self.old.unseen }
     {
-        add_each(&mut self.waiting, self.order.as_slice());
+        add_each(&mut self.waiting, self.by_calls.bodies.as_slice());
         self.waiting.add(0);
-        add_below(&mut self.inside, self.order.len());
-        add_below(&mut self.entered, self.order.len());
-    }
-
-    fn rank(&self, definition: u32) -> Rank {
-        match self.ranks.get(definition as usize) {
-            Some(rank) => *rank,
-            None => Rank::Begun,
-        }
-    }
-
-    fn set_rank(&mut self, definition: u32, rank: Rank)
-        ensures waiting { self.new.waiting ≡ self.old.waiting }
-        ensures unseen { self.new.unseen ≡ self.old.unseen }
-        ensures steps { self.new.steps ≡ self.old.steps }
-    {
-        if let Some(place) = self.ranks.get_mut(definition as usize) {
-            *place = rank;
-        }
+        self.by_calls.wait_all();
+        self.by_callers.wait_all();
     }
 
     /// Has a unit wait, since a command in it does.
@@ -135,19 +132,8 @@ impl Units {
                 self.waiting.add(0);
                 Ok(())
             }
-            Unit::Body(definition) => self.wait_body(definition),
+            Unit::Body(definition) => self.wait_for(definition, Reason::Inside),
         }
-    }
-
-    fn wait_body(&mut self, definition: u32) -> Result<(), AllocError>
-        ensures waiting { (k : ℕ) → does_wait self.new k ≡ ((k == definition && nat_lt definition (limit self.old)) || does_wait self.old k) }
-        ensures limit { limit self.new ≡ limit self.old }
-        ensures unseen { self.new.unseen ≡ self.old.unseen }
-    {
-        if let Rank::At(rank) = self.rank(definition) {
-            self.inside.add(rank);
-        }
-        self.add_body(definition)
     }
 
     /// Has a body wait, since the function is entered with less.
@@ -160,26 +146,38 @@ impl Units {
         ensures limit { limit self.new ≡ limit self.old }
         ensures unseen { self.new.unseen ≡ self.old.unseen }
     {
-        if let Rank::At(rank) = self.rank(definition) {
-            self.entered.add(rank);
-        }
-        self.add_body(definition)
+        self.wait_for(definition, Reason::Entered)
     }
 
     // Has a body wait. If no pass over it has begun, it is next.
-    fn add_body(&mut self, definition: u32) -> Result<(), AllocError>
+    fn wait_for(&mut self, definition: u32, reason: Reason) -> Result<(), AllocError>
         ensures waiting { (k : ℕ) → does_wait self.new k ≡ ((k == definition && nat_lt definition (limit self.old)) || does_wait self.old k) }
         ensures limit { limit self.new ≡ limit self.old }
         ensures unseen { self.new.unseen ≡ self.old.unseen }
     {
+        self.by_calls.wait(definition, reason);
+        self.by_callers.wait(definition, reason);
         if self.waiting.has(definition) {
             return Ok(());
         }
         self.waiting.add(definition);
-        if self.rank(definition) == Rank::Unseen {
+        if self.unseen.has(definition) {
             self.steps.push(Step::Begin(definition))?;
         }
         Ok(())
+    }
+
+    /// Notes that something fell in a unit, so that bodies wait for this reason: a hint.
+    pub fn note_fall(&mut self, unit: Unit, reason: Reason)
+        ensures waiting { self.new.waiting ≡ self.old.waiting }
+        ensures unseen { self.new.unseen ≡ self.old.unseen }
+    {
+        if let Unit::Body(definition) = unit {
+            match reason {
+                Reason::Inside => self.falls.add(definition),
+                Reason::Entered => self.entries.add(definition),
+            }
+        }
     }
 
     /// Whether no pass over a body has begun.
@@ -194,10 +192,7 @@ impl Units {
     pub fn waits_again(&self, definition: u32) -> bool
         ensures { IsTrue result → does_wait self.now definition ≡ true }
     {
-        match self.rank(definition) {
-            Rank::At(rank) => rank >= self.once && self.waiting.has(definition),
-            Rank::Unseen | Rank::Begun => false,
-        }
+        self.by_calls.has(definition, self.once) && self.waiting.has(definition)
     }
 
     /// A pass over a body begins. The body waits no longer.
@@ -211,17 +206,10 @@ impl Units {
         ensures limit { limit self.new ≡ limit self.old }
     {
         self.waiting.take(definition);
-        self.unseen.take(definition);
-        match self.rank(definition) {
-            Rank::Unseen => {
-                self.set_rank(definition, Rank::Begun);
-                self.steps.push(Step::End(definition))?;
-            }
-            Rank::Begun => (),
-            Rank::At(rank) => {
-                self.inside.take(rank);
-                self.entered.take(rank);
-            }
+        self.by_calls.take(definition);
+        self.by_callers.take(definition);
+        if self.unseen.take(definition) {
+            self.steps.push(Step::End(definition))?;
         }
         Ok(())
     }
@@ -246,20 +234,15 @@ impl Units {
         self.place(definition)
     }
 
-    // Gives a body the next place in the order.
+    // Gives a body the next place in both orders.
     fn place(&mut self, definition: u32) -> Result<(), AllocError>
         ensures waiting { self.new.waiting ≡ self.old.waiting }
         ensures unseen { self.new.unseen ≡ self.old.unseen }
         ensures steps { self.new.steps ≡ self.old.steps }
     {
-        let rank = u32::try_from(self.order.len()).unwrap_or(u32::MAX);
-        self.order.push(definition)?;
-        self.set_rank(definition, Rank::At(rank));
-        if self.waiting.has(definition) {
-            self.inside.add(rank);
-            self.entered.add(rank);
-        }
-        Ok(())
+        let does_wait = self.waiting.has(definition);
+        self.by_calls.push(definition, does_wait)?;
+        self.by_callers.push(definition, does_wait)
     }
 
     // A body that a call has entered and no pass has begun.
@@ -280,23 +263,9 @@ impl Units {
         Ok(None)
     }
 
-    // Places the bodies anew that had a place.
-    fn place_anew(&mut self, alloc: Global, order: &[u32]) -> Result<(), AllocError>
-        ensures waiting { self.new.waiting ≡ self.old.waiting }
-        ensures unseen { self.new.unseen ≡ self.old.unseen }
-    {
-        self.order.clear();
-        self.inside = Flags::none(alloc, self.ranks.len())?;
-        self.entered = Flags::none(alloc, self.ranks.len())?;
-        for definition in order {
-            if matches!(self.rank(*definition), Rank::At(_)) {
-                self.place(*definition)?;
-            }
-        }
-        Ok(())
-    }
-
-    // Puts the bodies in the order of their calls, if there are more than twice as many as before.
+    // Puts the bodies in order by all calls, if there are more than twice as many as before. If many
+    // were taken since, and both orders were gone through, it is by the calls in those in which
+    // something fell.
     fn put_in_order(
         &mut self,
         alloc: Global,
@@ -306,42 +275,90 @@ impl Units {
         ensures waiting { self.new.waiting ≡ self.old.waiting }
         ensures unseen { self.new.unseen ≡ self.old.unseen }
     {
-        if self.order.len() <= self.most {
+        let count = self.by_calls.bodies.len();
+        let is_grown = count > self.most;
+        if is_grown {
+            self.take_course(Course::CalleesFirst);
+            self.once = u32::try_from(count).unwrap_or(u32::MAX);
+            self.most = count.saturating_mul(2);
+        } else if self.left == 0 && self.is_through() {
+            self.turn();
+        } else {
             return Ok(());
         }
-        let order = in_order(alloc, table, commands)?;
-        self.place_anew(alloc, order.as_slice())?;
-        self.most = self.order.len().saturating_mul(2);
-        self.cursor = 0;
-        self.is_rising = true;
-        self.once = u32::try_from(self.order.len()).unwrap_or(u32::MAX);
+        let bodies = if is_grown { None } else { Some(self.falling()) };
+        let orders = in_order(alloc, table, commands, bodies)?;
+        self.by_calls = self
+            .by_calls
+            .anew(alloc, orders.by_calls.as_slice(), &self.waiting)?;
+        self.by_callers = self
+            .by_callers
+            .anew(alloc, orders.by_callers.as_slice(), &self.waiting)?;
+        let count = table.rows().len();
+        self.left = self.most.saturating_add(count / COMMANDS);
+        self.falls = Flags::none(alloc, count + 1)?;
+        self.entries = Flags::none(alloc, count + 1)?;
         Ok(())
     }
 
-    // The place in the order of the next body in the direction of the last one, or else the first
-    // one there.
-    fn ahead(&self) -> Option<u32> {
-        if self.is_rising {
-            let next = self.inside.next(self.cursor, u32::MAX);
-            next.or_else(|| self.inside.next(0, u32::MAX))
-        } else {
-            let last = self.entered.last(self.cursor);
-            last.or_else(|| self.entered.last(u32::MAX))
+    // The definitions in which something fell, for the reason for which bodies are taken.
+    fn falling(&self) -> &Flags {
+        match self.course {
+            Course::CalleesFirst | Course::RootsFirst => &self.falls,
+            Course::CallersFirst | Course::RootsLast => &self.entries,
         }
     }
 
-    // As `ahead`, then in the other direction.
-    fn next_place(&mut self) -> Option<u32>
+    // Whether both orders were gone through for a reason.
+    fn is_through(&self) -> bool {
+        matches!(self.course, Course::RootsFirst | Course::RootsLast) && self.ahead().1.is_none()
+    }
+
+    // Begins with a course at its end of the order.
+    fn take_course(&mut self, course: Course)
         ensures waiting { self.new.waiting ≡ self.old.waiting }
         ensures unseen { self.new.unseen ≡ self.old.unseen }
     {
-        if self.ahead().is_none() {
-            self.is_rising = !self.is_rising;
+        if course == Course::CallersFirst {
             self.once = 0;
         }
-        let place = self.ahead()?;
-        self.cursor = place;
-        Some(place)
+        self.course = course;
+        self.cursor = match course {
+            Course::CalleesFirst | Course::RootsLast => 0,
+            Course::RootsFirst | Course::CallersFirst => u32::MAX,
+        };
+    }
+
+    // Whether a body waits for a reason that has a place.
+    fn has_any(&self, reason: Reason) -> bool {
+        self.by_calls.next(reason, Direction::Up, 0).is_some()
+    }
+
+    // Goes on in the other order, or with the other reason if no body waits for this one.
+    fn turn(&mut self)
+        ensures waiting { self.new.waiting ≡ self.old.waiting }
+        ensures unseen { self.new.unseen ≡ self.old.unseen }
+    {
+        let course = match self.course {
+            Course::CalleesFirst => Course::RootsFirst,
+            Course::RootsFirst if self.has_any(Reason::Inside) => Course::CalleesFirst,
+            Course::RootsFirst => Course::CallersFirst,
+            Course::CallersFirst => Course::RootsLast,
+            Course::RootsLast if self.has_any(Reason::Entered) => Course::CallersFirst,
+            Course::RootsLast => Course::CalleesFirst,
+        };
+        self.take_course(course);
+    }
+
+    // The order of a course, and the place there of the next body that waits.
+    fn ahead(&self) -> (&Ordered, Option<u32>) {
+        let (ordered, reason, direction) = match self.course {
+            Course::CalleesFirst => (&self.by_calls, Reason::Inside, Direction::Up),
+            Course::RootsFirst => (&self.by_callers, Reason::Inside, Direction::Down),
+            Course::CallersFirst => (&self.by_calls, Reason::Entered, Direction::Down),
+            Course::RootsLast => (&self.by_callers, Reason::Entered, Direction::Up),
+        };
+        (ordered, ordered.next(reason, direction, self.cursor))
     }
 
     // A body that waits, by the order.
@@ -349,8 +366,16 @@ impl Units {
         ensures waiting { self.new.waiting ≡ self.old.waiting }
         ensures unseen { self.new.unseen ≡ self.old.unseen }
     {
-        let place = self.next_place()?;
-        self.order.get(place as usize).copied()
+        for _course in 0..COURSES {
+            if let (ordered, Some(place)) = self.ahead() {
+                let body = ordered.bodies.get(place as usize).copied();
+                self.cursor = place;
+                self.left = self.left.saturating_sub(1);
+                return body;
+            }
+            self.turn();
+        }
+        None
     }
 
     /// The next unit, if one waits or a body is unseen. The commands outside wait no longer if they
@@ -372,7 +397,7 @@ impl Units {
         ensures none { IfOk result (λ unit. unit ≡ None → does_wait self.old 0 ≡ false) }
         ensures seen { IfOk result (λ unit. unit ≡ None → HoldsNowhere (units.is_unseen self.old) 0 (2 ^ 32)) }
     {
-        if self.order.is_empty() && self.waiting.take(0) {
+        if self.by_calls.bodies.is_empty() && self.waiting.take(0) {
             return Ok(Some(Unit::Outside));
         }
         if let Some(definition) = self.next_found()? {
@@ -404,11 +429,5 @@ fn add_each(flags: &mut Flags, numbers: &[u32])
 {
     for number in numbers {
         flags.add(*number);
-    }
-}
-
-fn add_below(flags: &mut Flags, count: usize) {
-    for number in 0..u32::try_from(count).unwrap_or(u32::MAX) {
-        flags.add(number);
     }
 }

@@ -12,6 +12,7 @@ ghost use Rattle.sh_worklist.specs.Waiting.{limit, waits, waits_in, waits_inside
 use crate::calls::Calls;
 use crate::commands::{Commands, Inside, Look};
 use crate::flags::Flags;
+use crate::ordered::Reason;
 use crate::units::{Unit, Units};
 use sh_table::CallTable;
 use std::alloc::{AllocError, Global};
@@ -133,6 +134,14 @@ impl Waiting {
             unit: Unit::Body(definition),
         };
         outer
+    }
+
+    /// Notes that something fell in the unit that the sweep is in, so that bodies wait for this
+    /// reason: a hint.
+    pub fn note_fall(&mut self, reason: Reason)
+        ensures { self.new ≡ record self.old { units = self.new.units } }
+    {
+        self.units.note_fall(self.inside.unit, reason);
     }
 
     /// The sweep is here again.

@@ -755,6 +755,9 @@ bodies::sweep_body-lower_return-requires-clause-ready = bodies.sweep_body-lower_
 pub bodies::sweep_body-lower_return-requires-clause-stands : goal.bodies::sweep_body-lower_return-requires-clause-stands
 bodies::sweep_body-lower_return-requires-clause-stands = bodies.sweep_body-lower_return-requires-clause-stands
 
+pub bodies::sweep_body-place_in-place-requires : goal.bodies::sweep_body-place_in-place-requires
+bodies::sweep_body-place_in-place-requires = bodies.sweep_body-place_in-place-requires
+
 pub bodies::sweep_body-lower_return-requires-2-clause-ready : goal.bodies::sweep_body-lower_return-requires-2-clause-ready
 bodies::sweep_body-lower_return-requires-2-clause-ready = bodies.sweep_body-lower_return-requires-2-clause-ready
 

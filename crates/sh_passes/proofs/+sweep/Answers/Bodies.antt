@@ -109,6 +109,10 @@ sweep_body-sweep_definition-requires t c =
     (w.1, w.3, entries.behind_redirects w.3 w.5, kind_part s w.0 w.1 w.2 w.3 w.4 _ w.5 w.6) in
     search std_rules
 
+pub sweep_body-place_in-place-requires : goal.bodies::sweep_body-place_in-place-requires
+sweep_body-place_in-place-requires t c =
+    (c.sweep_definition.new.draft.probe.count, ready_again c.args.subject.now _ _ _ _ c.requires.ready c.in_ok-sweep_definition.ensures.swept)
+
 pub sweep_body-lower_return-requires-clause-ready : goal.bodies::sweep_body-lower_return-requires-clause-ready
 sweep_body-lower_return-requires-clause-ready t c = ready_again c.args.subject.now _ _ _ _ c.requires.ready c.in_ok-sweep_definition.ensures.swept
 
