@@ -56,8 +56,9 @@ pub fn single()
     ensures { HasOneGreatest }
 {}
 
-/// If a lint passes, a check of the certificate's text that is shown of the script passes. If a lint
-/// has findings, such a check has the same ones. So it is of the full text and of the compact one.
+/// If a lint passes, a check of the certificate's text that is shown of the script passes. If a
+/// lint has findings, such a check has the same ones. So it is of the full text and of the compact
+/// one.
 pub fn passed()
     ensures { LintedIsChecked }
 {}
@@ -86,8 +87,8 @@ pub fn once()
     ensures { PlacesStandOnce }
 {}
 
-/// What a call table keeps of the words of a simple command is what `sh_tree::static_text` reads off
-/// them (XCU 2.2).
+/// What a call table keeps of the words of a simple command is what `sh_tree::static_text` reads
+/// off them (XCU 2.2).
 pub fn statics()
     ensures { StaticsAreTexts }
 {}

@@ -201,8 +201,8 @@ impl Draft {
         self.looks > self.patience
     }
 
-    /// How much is claimed at the turns of the loop whose command has this number: a hint. Claims only
-    /// fall, so one of the same size is the same, even if its rows are at other places by now.
+    /// How much is claimed at the turns of the loop whose command has this number: a hint. Claims
+    /// only fall, so one of the same size is the same, even if its rows are at other places by now.
     pub fn size_at_turns(&self, number: u32) -> Option<Size> {
         let names = u64::MAX;
         match self.certificate.heads.get(&number)? {
@@ -226,8 +226,8 @@ impl Draft {
     }
 
     /// Whether a call goes over a body of the function at once, though a pass over it has ended: a
-    /// hint. What it is entered with fell, so what it returns with may fall too. Such passes take at
-    /// most a quarter of the looks, so that a body with many callers is not gone over for each.
+    /// hint. What it is entered with fell, so what it returns with may fall too. Such passes take
+    /// at most a quarter of the looks, so that a body with many callers is not gone over for each.
     pub fn goes_again(&self, definition: u32) -> bool {
         self.again <= self.looks / 4 && self.waiting.units.waits_again(definition)
     }

@@ -22,8 +22,8 @@ fn rows_of(facts: Facts) -> (RowId, RowId) {
     }
 }
 
-// The place of a row of these numbers, which is added if there is none. Two rows are compared first,
-// since that takes less time than to hash the numbers.
+// The place of a row of these numbers, which is added if there is none. Two rows are compared
+// first, since that takes less time than to hash the numbers.
 fn intern(
     rows: &mut Rows,
     probe: &mut BitRow,

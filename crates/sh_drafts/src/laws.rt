@@ -1,5 +1,5 @@
-//! How what is gathered follows constraints, which functions the rules know, and which words hold no
-//! command.
+//! How what is gathered follows constraints, which functions the rules know, and which words hold
+//! no command.
 ghost use Rattle.sh_drafts.specs.Functions.{RulesDefineNames, RulesKnowNames};
 ghost use Rattle.sh_drafts.specs.Inner.{EntersNothing};
 ghost use Rattle.sh_drafts.specs.Together.{GatheredTogether};

@@ -58,8 +58,8 @@ pub fn sweep_called(
     Ok(())
 }
 
-/// Whether a command calls a function over whose bodies the sweep goes again at once: a hint. It does
-/// not if counts are to be solved apart.
+/// Whether a command calls a function over whose bodies the sweep goes again at once: a hint. It
+/// does not if counts are to be solved apart.
 pub fn is_called_again(subject: &Subject<'_>, draft: &Draft, command: &Command) -> bool {
     let Some(function) = subject.table.callee(command.number) else {
         return false;

@@ -48,8 +48,8 @@ pub fn sweep_links(
     Ok(())
 }
 
-// The place from a place on of the next pipeline to which something is new or in which a command may
-// wait, or their count.
+// The place from a place on of the next pipeline to which something is new or in which a command
+// may wait, or their count.
 fn next_link(
     subject: &Subject<'_>,
     draft: &Draft,
@@ -99,8 +99,8 @@ fn pass_links(
     next
 }
 
-/// Goes over the pipelines after `&&` and `||` again, until none of them waits. So the list that they
-/// are in is joined once.
+/// Goes over the pipelines after `&&` and `||` again, until none of them waits. So the list that
+/// they are in is joined once.
 ///
 /// # Errors
 ///

@@ -296,8 +296,8 @@ impl Behind {
         }
     }
 
-    // Goes on after an item, if what is known before it is the same after each status or not. Reports
-    // the same of what is known after it. Then a pipeline of more commands changes nothing.
+    // Goes on after an item, if what is known before it is the same after each status or not.
+    // Reports the same of what is known after it. Then a pipeline of more commands changes nothing.
     fn pass_next(&mut self, claims: &Claims<'_>, item: &Item, is_same: bool) -> bool
         requires { is_same ≡ true → spec.IsSame (walks.behind_in (setting claims.now) self.old) }
         ensures passed { walks.behind_in (setting claims.now) self.new ≡ walks.item_left (setting claims.now) (walks.behind_in (setting claims.now) self.old) item.now }

@@ -3,8 +3,8 @@
 use sh_tree::Span;
 
 /// A place. Of a command, by its number: before it, after it by its status, and each turn of a
-/// loop. Of a function: where it is entered, by its name, and where it returns by its status, by the
-/// span of its name.
+/// loop. Of a function: where it is entered, by its name, and where it returns by its status, by
+/// the span of its name.
 #[derive(Clone, Copy)]
 pub enum Place<'a> {
     Before(u32),

@@ -54,8 +54,8 @@ impl News {
         }
     }
 
-    /// How many looks it took to go on after these items: those over which what is known was carried
-    /// are looks too, and so are those after the last that settles what is known.
+    /// How many looks it took to go on after these items: those over which what is known was
+    /// carried are looks too, and so are those after the last that settles what is known.
     pub fn looks_at(self, items: &[Item]) -> u64 {
         if self == News::Anything {
             return items.len() as u64;

@@ -221,8 +221,8 @@ fn place_behind<M: Member>(waiting: &Waiting, members: &[M], from: usize, second
 }
 
 /// The place from a place on of the first member in which a command may wait. A few are looked at
-/// one by one, since the bodies of functions that are never called wait too. The others are searched
-/// for by the number of the next command that waits.
+/// one by one, since the bodies of functions that are never called wait too. The others are
+/// searched for by the number of the next command that waits.
 pub fn next_place<M: Member>(waiting: &Waiting, members: &[M], from: usize) -> Option<usize>
     ensures { IfSome result (λ place. (from ≤ place) × (place < length members.now)) }
 {

@@ -203,8 +203,8 @@ impl Tally<'_> {
         Ok(())
     }
 
-    // Goes over the list of a clause of `case`, if this is known at its entry. Returns what is known
-    // where it goes on with the next list.
+    // Goes over the list of a clause of `case`, if this is known at its entry. Returns what is
+    // known where it goes on with the next list.
     #[cycle(tally)]
     fn clause(
         &self,

@@ -24,8 +24,8 @@ pub enum End {
     Nonzero,
 }
 
-/// The counts that a certificate claims: five for each number from 0, four of the command and one of
-/// a function, of which every three numbers have one. A place to which no run comes has none.
+/// The counts that a certificate claims: five for each number from 0, four of the command and one
+/// of a function, of which every three numbers have one. A place to which no run comes has none.
 #[derive(Clone, Copy, Debug)]
 pub struct Places<'a> {
     pub counts: &'a [Option<u16>],

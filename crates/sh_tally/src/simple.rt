@@ -173,8 +173,8 @@ impl Tally<'_> {
         }
     }
 
-    // A call leaves the caller its parameters, if the function returns, if a utility may run in place
-    // of it, or if a redirection fails.
+    // A call leaves the caller its parameters, if the function returns, if a utility may run in
+    // place of it, or if a redirection fails.
     fn call(
         &self,
         equations: &mut Equations,

@@ -1,5 +1,5 @@
-//! Tests of what the names of commands mean, of the call table, of policies, of the names of scripts
-//! and of what certificates keep.
+//! Tests of what the names of commands mean, of the call table, of policies, of the names of
+//! scripts and of what certificates keep.
 #![tactic(auto)]
 
 #[cfg(test)]
