@@ -147,8 +147,8 @@ impl Assured {
         self.functions.join_row(rows, functions);
     }
 
-    // Becomes what is left if a function or a utility of its name was called: what the function does
-    // not drop. If the name is `getopts`, OPTARG is not left.
+    // Becomes what is left if a function or a utility of its name was called: what the function
+    // does not drop. If the name is `getopts`, OPTARG is not left.
     fn pass_either(&mut self, names: &Names, function: &[u8], rows: &Rows, drops: &Drops)
         ensures { AreNumbered names.now
             → assured_facts names.now self.new

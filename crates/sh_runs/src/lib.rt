@@ -1,6 +1,6 @@
 //! What a shell does with a script, and which scripts are analysed, as definitions in `specs/`.
-//! `laws` holds them against worked examples. The functions say what the names of commands mean, and
-//! which operands are options or assignments.
+//! `laws` holds them against worked examples. The functions say what the names of commands mean,
+//! and which operands are options or assignments.
 #![tactic(auto)]
 
 mod kind;
