@@ -376,20 +376,39 @@ def long_function(piece, before=""):
     return of
 
 
-def two_ways(there, back, is_crosswise):
-    """Two definitions of each function: one calls the next (K), one that before it or across (J), by which a name is lost. `all` sets all names."""
+def two_ways(there, back, is_crosswise, start="all\nf0"):
+    """Two definitions of each function, which call the next (K), that before it or across (J), or its mirror (Z). `all` sets all names."""
 
     def made(size):
         sample = f"v1000=1\n{there}\n{back}"
-        for letter in "NKJ":
+        for letter in "NKJZ":
             sample = sample.replace(letter, "1000")
         count = count_of(size, sample)
         last = count - 1
         across = [last - n if 2 * n < last else min(count - n, last) for n in range(count)]
         before = across if is_crosswise else [max(0, n - 1) for n in range(count)]
-        ahead = [there.replace("N", str(n)).replace("K", str(min(n + 1, last))) for n in range(count)]
-        behind = [back.replace("N", str(n)).replace("J", str(before[n])) for n in range(count)]
-        return text_of(["all() {", *(f"v{n}=1" for n in range(count)), "}", *ahead, *behind, "all", "f0"])
+
+        def each_of(definitions):
+            for n in range(count):
+                definition = definitions
+                for letter, number in ("K", min(n + 1, last)), ("J", before[n]), ("Z", last - n), ("N", n):
+                    definition = definition.replace(letter, str(number))
+                yield definition
+
+        names = (f"v{n}=1" for n in range(count))
+        return text_of(["all() {", *names, "}", *each_of(there), *each_of(back), start])
+
+    return made
+
+
+def from_the_end(definitions):
+    """Functions that call others and the next (K), and are called from the last on, each time with a name less."""
+
+    def made(size):
+        count = count_of(size, definitions.replace("N", "1000").replace("K", "1000") + "v1000=1\nunset v1000; ( f1000 )")
+        made_of = [definitions.replace("N", str(n)).replace("K", str(min(n + 1, count - 1))) for n in range(count)]
+        calls = (f"unset v{n}; ( f{n} )" for n in reversed(range(count)))
+        return text_of([*(f"v{n}=1" for n in range(count)), *made_of, "f0", *calls])
 
     return made
 
@@ -584,7 +603,10 @@ LINED = {
     "calls both ways": two_ways("fN() { fK; }", "fN() { unset vN; fJ; }", False),
     "calls crosswise": two_ways("fN() { fK; }", "fN() { unset vN; fJ; }", True),
     "calls crosswise, set before": two_ways("fN() { all; fK; }", "fN() { unset vN; fJ; }", True),
+    "calls crosswise, set for a call": two_ways("fN() { all; fK; }", "fN() { vN=1 fJ; }", True, "f0"),
     "calls crosswise, set after": two_ways("fN() { a && return; fK; all; }", "fN() { fJ; unset vN; }", True),
+    "calls of mirrors": two_ways("fN() { fZ; ( fK ); }", "fN() { unset vK; }", False),
+    "calls crosswise beside subshells": two_ways("fN() { ( fK ); fJ; }", "fN() { unset vN; }", True),
     "recursion to the next": of(each("vN=x\n", 1500), each("fN() { fK || fM; unset vN; }\n", 1500), "f0\n"),
     "defined again": of(each("f() { vN=1; }\nf\n")),
     "defined again, then called": of(each("f() { unset vN; }\n"), each("f\n")),
@@ -599,6 +621,8 @@ LINED = {
     "entries by recursion": of(each("vN=\n", 1900), "f() { a && f; }\n", each("gN() { f; unset vN; }; gN\n", 1900)),
     "entries in conditions": of(each("vN=\n", 1900), "f() { :; }\n", each("gN() { if f; then unset vN; fi; }; gN\n", 1900)),
     "entries late": of("h() { a || ( m ); }\nf() { a && f; }\n", each("gN() { f; unset vN; }\n", 1900), "m() { h\n", each("vN=\n", 1900), each("gN\n", 1900), "}\nh\n"),
+    "entries from the end": from_the_end("fN() { gN; ( fK ); }\ngN() { a; }\n"),
+    "entries from the end, deep": from_the_end("fN() { gN; ( fK ); }\ngN() { hN; }\nhN() { iN; }\niN() { a; }\n"),
     "entries of long bodies": of(each("vN=\n", 1900), "f() {\n", each('b "$vN"\n', 1900), "}\n", each("gN() { unset vN; f; }; gN\n", 1900)),
     "lost along calls": of(each("fN() { unset vN; fK; }\n", MOST_NAMES // 2), "f0\n"),
     "told in parts of parts": told_within,

@@ -226,9 +226,12 @@ impl Draft {
     }
 
     /// Whether a call goes over a body of the function at once, though a pass over it has ended: a
-    /// hint. What it is entered with fell, so what it returns with may fall too. Such passes take
-    /// at most a quarter of the looks, so that a body with many callers is not gone over for each.
+    /// hint. What it is entered with fell, so what it returns with may fall too. If such passes
+    /// took more than a quarter of the looks, a body has two passes in each course at most, so that
+    /// one with many callers is not gone over for each.
     pub fn goes_again(&self, definition: u32) -> bool {
-        self.again <= self.looks / 4 && self.waiting.units.waits_again(definition)
+        let units = &self.waiting.units;
+        let is_rare = self.again <= self.looks / 4 || units.passes(definition) < 2;
+        is_rare && units.waits_again(definition)
     }
 }

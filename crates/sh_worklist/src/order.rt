@@ -34,11 +34,18 @@ struct Walk {
     steps: Vec<Step>,
     // The functions with which it has ended.
     ended: Vec<u32>,
+    // Which edge of each function is gone along first.
+    first: usize,
 }
 
 impl Walk {
     // A walk over so many functions that has not begun.
-    fn along(alloc: Global, mut edges: Vec<Edge>, functions: usize) -> Result<Walk, AllocError> {
+    fn along(
+        alloc: Global,
+        mut edges: Vec<Edge>,
+        functions: usize,
+        first: usize,
+    ) -> Result<Walk, AllocError> {
         edges.sort_by_key(|edge| edge.from)?;
         let mut unseen = Flags::none(alloc, functions)?;
         unseen.add_all();
@@ -47,10 +54,11 @@ impl Walk {
             unseen,
             steps: Vec::new(alloc),
             ended: Vec::new(alloc),
+            first,
         })
     }
 
-    // Begins with a function, the first of its edges next.
+    // Begins with a function, one of its edges next, then those after it and those before it.
     fn begin(&mut self, function: u32) -> Result<(), AllocError> {
         if !self.unseen.take(function) {
             return Ok(());
@@ -59,7 +67,8 @@ impl Walk {
         let start = self.edges.partition_point(|edge| edge.from < function);
         let edges = &self.edges[start..];
         let count = edges.partition_point(|edge| edge.from == function);
-        for edge in edges[..count].iter().rev() {
+        let (before, rest) = edges[..count].split_at(self.first.checked_rem(count).unwrap_or(0));
+        for edge in before.iter().rev().chain(rest.iter().rev()) {
             self.steps.push(Step::Begin(edge.to))?;
         }
         Ok(())
@@ -81,8 +90,13 @@ impl Walk {
 
 // All functions, in the order in which a walk along edges ends with them. It begins with the last
 // of these, which are all too.
-fn ends(alloc: Global, edges: Vec<Edge>, functions: &[u32]) -> Result<Vec<u32>, AllocError> {
-    let mut walk = Walk::along(alloc, edges, functions.len())?;
+fn ends(
+    alloc: Global,
+    edges: Vec<Edge>,
+    functions: &[u32],
+    first: usize,
+) -> Result<Vec<u32>, AllocError> {
+    let mut walk = Walk::along(alloc, edges, functions.len(), first)?;
     for function in functions.iter().rev() {
         walk.go(*function)?;
     }
@@ -134,7 +148,7 @@ fn owners(alloc: Global, table: &CallTable<'_>) -> Result<Vec<u32>, AllocError> 
 
 fn definition_of(commands: &Commands, command: u32) -> u32 {
     match commands.place(command).unit {
-        Unit::Outside => 0,
+        Unit::Outside => OUTSIDE,
         Unit::Body(definition) => definition,
     }
 }
@@ -195,7 +209,8 @@ pub struct Orders {
 
 /// The orders in which two walks depth first end with the functions of a script. One goes along
 /// calls, from those outside of functions. Then one goes along callers, and begins with the last
-/// function of the first order. Calls count that are in these bodies, in all, or outside.
+/// function of the first order. Calls count that are in these bodies, in all, or outside. Of each
+/// function, the walks go along this one first.
 ///
 /// # Errors
 ///
@@ -205,11 +220,12 @@ pub fn in_order(
     table: &CallTable<'_>,
     commands: &Commands,
     bodies: Option<&Flags>,
+    first: usize,
 ) -> Result<Orders, AllocError> {
     let calls = calls_of(alloc, table, commands, bodies)?;
     let callers = turned(alloc, calls.as_slice())?;
-    let by_calls = ends(alloc, calls, numbers(alloc, table)?.as_slice())?;
-    let by_callers = ends(alloc, callers, by_calls.as_slice())?;
+    let by_calls = ends(alloc, calls, numbers(alloc, table)?.as_slice(), first)?;
+    let by_callers = ends(alloc, callers, by_calls.as_slice(), first)?;
     Ok(Orders {
         by_calls: definitions_in(alloc, table, by_calls.as_slice())?,
         by_callers: definitions_in(alloc, table, by_callers.as_slice())?,

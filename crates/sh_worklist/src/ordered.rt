@@ -119,16 +119,33 @@ impl Ordered {
         }
     }
 
-    /// The place of the next body that waits for a reason: upwards from a place, which is included,
-    /// or downwards below it.
+    /// Whether a body has a place that is entered with less.
+    pub fn has_entered(&self) -> bool {
+        self.entered.next(0, NOWHERE).is_some()
+    }
+
+    /// The place of the next body that waits: upwards from a place, which is included, or downwards
+    /// below it. A body in which a command waits is taken for both reasons.
     pub fn next(&self, reason: Reason, direction: Direction, place: u32) -> Option<u32> {
-        let waiting = match reason {
-            Reason::Inside => &self.inside,
-            Reason::Entered => &self.entered,
+        let inside = next_in(&self.inside, direction, place);
+        let entered = match reason {
+            Reason::Inside => None,
+            Reason::Entered => next_in(&self.entered, direction, place),
         };
-        match direction {
-            Direction::Up => waiting.next(place, NOWHERE),
-            Direction::Down => waiting.last(place),
+        match (inside, entered) {
+            (Some(inside), Some(entered)) => Some(match direction {
+                Direction::Up => inside.min(entered),
+                Direction::Down => inside.max(entered),
+            }),
+            (inside, entered) => inside.or(entered),
         }
+    }
+}
+
+// The next of these places.
+fn next_in(places: &Flags, direction: Direction, place: u32) -> Option<u32> {
+    match direction {
+        Direction::Up => places.next(place, NOWHERE),
+        Direction::Down => places.last(place),
     }
 }

@@ -42,17 +42,44 @@ enum Course {
     CalleesFirst,
     // Such ones too: the root of each circle of calls first, and then its callers.
     RootsFirst,
-    // Their functions are entered with less: those that call them first.
+    // Their functions are entered with less, or a command waits: those that call them first.
     CallersFirst,
     // Such ones too: the root of each circle last, and its callers before it.
     RootsLast,
+}
+
+// When the bodies are put in order anew.
+#[derive(Clone, Copy, Debug, PartialEq, Eq)]
+struct Renewal {
+    // If more bodies have a place.
+    most: usize,
+    // After so many bodies more.
+    left: usize,
+    // How often they were. Each time another call of each function is gone along first, since only
+    // some calls hand on what falls.
+    count: usize,
+}
+
+// How many passes over a body have begun in a course.
+#[derive(Clone, Copy, Debug, PartialEq, Eq)]
+struct Passes {
+    course: u32,
+    count: u32,
+}
+
+impl Passes {
+    const NONE: Passes = Passes {
+        course: 0,
+        count: 0,
+    };
 }
 
 /// Which units wait, each at most once, and in which order they are next.
 ///
 /// The first pass goes depth first along calls that are reached. Its ends are the order of the
 /// bodies until they are put in order by all calls. Then bodies in which a command waits are taken
-/// in both orders by turns until there are none, and so are bodies that are entered with less.
+/// in both orders by turns. Those that are entered with less come first after that, and with them
+/// those in which a command waits, until there are none.
 #[derive(Drop)]
 pub struct Units {
     // By the numbers of definitions, and by 0 the commands outside.
@@ -65,13 +92,15 @@ pub struct Units {
     by_callers: Ordered,
     course: Course,
     cursor: u32,
+    // How many courses there were.
+    courses: u32,
+    // By the numbers of definitions.
+    passes: Vec<Passes>,
     // No call goes again over a body whose place by calls is below this.
     once: u32,
-    // If more bodies have a place, they are put in order anew.
-    most: usize,
-    // After so many bodies more they are put in order anew.
-    left: usize,
-    // The definitions in which something fell since then so that others wait, for each reason.
+    renewal: Renewal,
+    // The definitions in which something fell since the last order, so that others wait, for each
+    // reason.
     falls: Flags,
     entries: Flags,
 }
@@ -97,9 +126,14 @@ impl Units {
             by_callers: Ordered::none(alloc, count)?,
             course: Course::CalleesFirst,
             cursor: 0,
+            courses: 0,
+            passes: vec![in alloc; Passes::NONE; count]?,
             once: 0,
-            most: 0,
-            left: usize::MAX,
+            renewal: Renewal {
+                most: 0,
+                left: usize::MAX,
+                count: 0,
+            },
             falls: Flags::none(alloc, count)?,
             entries: Flags::none(alloc, count)?,
         })
@@ -195,6 +229,14 @@ impl Units {
         self.by_calls.has(definition, self.once) && self.waiting.has(definition)
     }
 
+    /// How many passes over a body have begun in this course: a hint.
+    pub fn passes(&self, definition: u32) -> u32 {
+        match self.passes.get(definition as usize) {
+            Some(passes) if passes.course == self.courses => passes.count,
+            _ => 0,
+        }
+    }
+
     /// A pass over a body begins. The body waits no longer.
     ///
     /// # Errors
@@ -205,6 +247,13 @@ impl Units {
         ensures unseen { (k : ℕ) → units.is_unseen self.new k ≡ (not (k == definition) && units.is_unseen self.old k) }
         ensures limit { limit self.new ≡ limit self.old }
     {
+        let count = self.passes(definition).saturating_add(1);
+        if let Some(passes) = self.passes.get_mut(definition as usize) {
+            *passes = Passes {
+                course: self.courses,
+                count,
+            };
+        }
         self.waiting.take(definition);
         self.by_calls.take(definition);
         self.by_callers.take(definition);
@@ -276,18 +325,18 @@ impl Units {
         ensures unseen { self.new.unseen ≡ self.old.unseen }
     {
         let count = self.by_calls.bodies.len();
-        let is_grown = count > self.most;
+        let is_grown = count > self.renewal.most;
         if is_grown {
             self.take_course(Course::CalleesFirst);
             self.once = u32::try_from(count).unwrap_or(u32::MAX);
-            self.most = count.saturating_mul(2);
-        } else if self.left == 0 && self.is_through() {
+            self.renewal.most = count.saturating_mul(2);
+        } else if self.renewal.left == 0 && self.is_through() {
             self.turn();
         } else {
             return Ok(());
         }
         let bodies = if is_grown { None } else { Some(self.falling()) };
-        let orders = in_order(alloc, table, commands, bodies)?;
+        let orders = in_order(alloc, table, commands, bodies, self.renewal.count)?;
         self.by_calls = self
             .by_calls
             .anew(alloc, orders.by_calls.as_slice(), &self.waiting)?;
@@ -295,7 +344,8 @@ impl Units {
             .by_callers
             .anew(alloc, orders.by_callers.as_slice(), &self.waiting)?;
         let count = table.rows().len();
-        self.left = self.most.saturating_add(count / COMMANDS);
+        self.renewal.left = self.renewal.most.saturating_add(count / COMMANDS);
+        self.renewal.count = self.renewal.count.saturating_add(1);
         self.falls = Flags::none(alloc, count + 1)?;
         self.entries = Flags::none(alloc, count + 1)?;
         Ok(())
@@ -322,6 +372,7 @@ impl Units {
         if course == Course::CallersFirst {
             self.once = 0;
         }
+        self.courses = self.courses.saturating_add(1);
         self.course = course;
         self.cursor = match course {
             Course::CalleesFirst | Course::RootsLast => 0,
@@ -329,23 +380,17 @@ impl Units {
         };
     }
 
-    // Whether a body waits for a reason that has a place.
-    fn has_any(&self, reason: Reason) -> bool {
-        self.by_calls.next(reason, Direction::Up, 0).is_some()
-    }
-
-    // Goes on in the other order, or with the other reason if no body waits for this one.
+    // Goes on in the other order, or begins a round. Those entered with less come first, since what
+    // a body is entered with may change what it drops.
     fn turn(&mut self)
         ensures waiting { self.new.waiting ≡ self.old.waiting }
         ensures unseen { self.new.unseen ≡ self.old.unseen }
     {
         let course = match self.course {
             Course::CalleesFirst => Course::RootsFirst,
-            Course::RootsFirst if self.has_any(Reason::Inside) => Course::CalleesFirst,
-            Course::RootsFirst => Course::CallersFirst,
             Course::CallersFirst => Course::RootsLast,
-            Course::RootsLast if self.has_any(Reason::Entered) => Course::CallersFirst,
-            Course::RootsLast => Course::CalleesFirst,
+            _ if self.by_calls.has_entered() => Course::CallersFirst,
+            _ => Course::CalleesFirst,
         };
         self.take_course(course);
     }
@@ -370,7 +415,7 @@ impl Units {
             if let (ordered, Some(place)) = self.ahead() {
                 let body = ordered.bodies.get(place as usize).copied();
                 self.cursor = place;
-                self.left = self.left.saturating_sub(1);
+                self.renewal.left = self.renewal.left.saturating_sub(1);
                 return body;
             }
             self.turn();

@@ -139,7 +139,9 @@ impl Waiting {
     /// Notes that something fell in the unit that the sweep is in, so that bodies wait for this
     /// reason: a hint.
     pub fn note_fall(&mut self, reason: Reason)
-        ensures { self.new ≡ record self.old { units = self.new.units } }
+        ensures waiting { self.new.units.waiting ≡ self.old.units.waiting }
+        ensures unseen { self.new.units.unseen ≡ self.old.units.unseen }
+        ensures rest { self.new ≡ record self.old { units = self.new.units } }
     {
         self.units.note_fall(self.inside.unit, reason);
     }
