@@ -21,7 +21,7 @@ ghost use Rattle.sh_drafts.specs.Ready.{IsReady, IsSwept, Keeps};
 use crate::sweep::{LEVELS, sweep_definition, sweep_items};
 use sh_domain::{Certificate, FlowRule, Knowledge};
 use sh_drafts::{Draft, Place, Subject, enter_function, lower_assured};
-use sh_rules::{Place as Slot, alone, begun};
+use sh_rules::{Around, Place as Slot, alone, begun};
 use sh_sweeps::known::{nonzero_of, zero_of};
 use sh_sweeps::{claims_of, spot_of};
 use sh_tree::{Command, Kind, Span};
@@ -59,8 +59,17 @@ pub fn sweep_called(
 }
 
 /// Whether a command calls a function over whose bodies the sweep goes again at once: a hint. It
-/// does not if counts are to be solved apart.
-pub fn is_called_again(subject: &Subject<'_>, draft: &Draft, command: &Command) -> bool {
+/// does not if counts are to be solved apart, nor at the end of a process, since nothing uses what
+/// the function returns with.
+pub fn is_called_again(
+    subject: &Subject<'_>,
+    draft: &Draft,
+    around: &Around<'_>,
+    command: &Command,
+) -> bool {
+    if around.function.is_none() && draft.waiting.is_last(command.number) {
+        return false;
+    }
     let Some(function) = subject.table.callee(command.number) else {
         return false;
     };

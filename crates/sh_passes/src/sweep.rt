@@ -418,7 +418,7 @@ fn sweep_simple(
     }
     let entered = draft.entered;
     lower_behind(subject, draft, by, around, known, command)?;
-    let is_news = draft.entered != entered || is_called_again(subject, draft, command);
+    let is_news = draft.entered != entered || is_called_again(subject, draft, around, command);
     if !is_news || levels < LEVELS - CALLS {
         return Ok(());
     }

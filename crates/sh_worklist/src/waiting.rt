@@ -146,6 +146,14 @@ impl Waiting {
         self.units.note_fall(self.inside.unit, reason);
     }
 
+    /// Whether the body that the sweep is in has no command after this one in the innermost command
+    /// that the sweep is in: a hint. It is false outside of all bodies.
+    pub fn is_last(&self, command: u32) -> bool {
+        let next = self.commands.place(command.saturating_add(1)).command;
+        let is_after = next == self.inside.command || next == Some(command);
+        self.inside.unit != Unit::Outside && !is_after
+    }
+
     /// The sweep is here again.
     pub fn leave(&mut self, outer: Inside)
         ensures { self.new ≡ record self.old { inside = outer } }
