@@ -1,5 +1,5 @@
+pub mod Changes
 pub mod Equations
 pub mod Falls
 pub mod Heads
-pub mod Meets
 pub mod Ways

@@ -1,7 +1,7 @@
 //! Equations over counts of positional parameters. They have no set of names (XCU 2.5.1).
 ghost use Rattle.std.specs.Prelude.{◌≡◌, ◌++◌, ◌∷◌, [], length, IfOk, OnOk, OnErr};
 ghost use Rattle.sh_counts.specs.Equations.{made};
-ghost use Rattle.sh_counts.specs.Meets.{Changes, IsLesser, Meets, equation};
+ghost use Rattle.sh_counts.specs.Changes.{Changes, equation};
 
 use std::alloc::{AllocError, Global};
 
@@ -146,39 +146,6 @@ impl Equations {
         }
         let count = self.unknown(u16::MAX)?;
         self.bound(count, source, change)?;
-        Ok(count)
-    }
-
-    /// The lesser of the counts of two places. A place to which no run comes has none.
-    ///
-    /// # Errors
-    ///
-    /// If a growth was refused.
-    #[tactic(auto, unfolding(crate::specs::Meets::Meets))]
-    pub fn meet(
-        &mut self,
-        one: Option<Count>,
-        other: Option<Count>,
-    ) -> Result<Option<Count>, AllocError>
-        ensures { IfOk result (Meets self.old self.new one other) }
-    {
-        match (one, other) {
-            (Some(first), Some(second)) => Ok(Some(self.lesser(first, second)?)),
-            (Some(first), None) => Ok(Some(first)),
-            (None, second) => Ok(second),
-        }
-    }
-
-    // The lesser of two counts.
-    fn lesser(&mut self, first: Count, second: Count) -> Result<Count, AllocError>
-        ensures { IfOk result (IsLesser self.old self.new first second) }
-    {
-        if first == second {
-            return Ok(first);
-        }
-        let count = self.unknown(u16::MAX)?;
-        self.bound(count, first, Change::NONE)?;
-        self.bound(count, second, Change::NONE)?;
         Ok(count)
     }
 }

@@ -6,7 +6,7 @@ use Rattle.std.specs.List.{list_any}
 use Rattle.std.specs.Str.{bytes_eq}
 use Rattle.sh_tree.specs.declared.place.Place.{Place}
 use Rattle.sh_tree.specs.standard.program.Syntax.{Text}
-use Rattle.sh_demands.specs.declared.reports.Told.{Told}
+use Rattle.sh_demands.specs.declared.reports.Subjects.{Subjects}
 
 -- whether a text is in the set
 abbrev pub holds : List (Vec ℕ Global) → Text → Bool
@@ -18,5 +18,5 @@ pub record AreTold (keys : List (Vec ℕ Global)) (count : ℕ) (ps : List Place
   pub subjects : (t : Text) → holds keys t ≡ list_any (λ x. bytes_eq x.subject t) (take count ps)
 
 -- the same, of the places from the set's first one on
-abbrev pub IsTold : Told → List Place → Type 0
+abbrev pub IsTold : Subjects → List Place → Type 0
 IsTold told ps = AreTold told.subjects.keys told.count (drop told.start ps)

@@ -8,16 +8,23 @@ ghost use Rattle.sh_domain.specs.Knowledge.{AreNumbered};
 ghost use Rattle.sh_domain.specs.Numbered.{pair_in};
 ghost use Rattle.sh_domain.specs.NumberSets.{numbers_of};
 ghost use Rattle.sh_demands.specs.Blocks.{AreHeld, block_of};
+ghost use Rattle.sh_demands.specs.declared.blocks.TheConstants.{BLOCKS};
 
 use sh_domain::{Names, NumberSet};
 
-/// The numbers of names in the byte order of these, in blocks of 64. Each block has the set of its
+/// How many blocks there are.
+pub const BLOCKS: usize = 64;
+
+/// How many numbers a block has at most.
+const BLOCK: usize = 64;
+
+/// The numbers of names in the byte order of these, in blocks. Each block has the set of its
 /// numbers, so a block without a number that is sought is passed by at once.
 #[derive(Drop)]
 pub struct Blocks<'a> {
     pub names: &'a Names,
     numbers: &'a [u32],
-    sets: [NumberSet; 64],
+    sets: [NumberSet; BLOCKS],
     ghost order: { map (pair_in names.now) numbers.now ≡ claims.in_byte_order names.now },
     ghost below: { All (λ number. number < length names.now) numbers.now },
     ghost held: { AreHeld numbers.now sets },
@@ -25,21 +32,21 @@ pub struct Blocks<'a> {
 
 // The numbers of a block.
 fn block(numbers: &[u32], index: usize) -> &[u32]
-    requires { index < 64 }
+    requires { index < BLOCKS }
     ensures { result.now ≡ block_of index numbers.now }
 {
-    let start = numbers.len().min(64 * index);
-    let end = numbers.len().min(start + 64);
+    let start = numbers.len().min(BLOCK * index);
+    let end = numbers.len().min(start + BLOCK);
     &numbers[start..end]
 }
 
 // The numbers of each block as a set.
-fn sets_of(numbers: &[u32]) -> [NumberSet; 64]
+fn sets_of(numbers: &[u32]) -> [NumberSet; BLOCKS]
     requires { All (λ n. n < MAX_NAMES) numbers.now }
     ensures { AreHeld numbers.now result }
 {
-    let mut sets = [NumberSet::new(); 64];
-    for index in 0..64 {
+    let mut sets = [NumberSet::new(); BLOCKS];
+    for index in 0..BLOCKS {
         sets[index] = NumberSet::of(block(numbers, index));
     }
     sets
@@ -61,7 +68,7 @@ impl<'a> Blocks<'a> {
 
     /// The numbers of a block.
     pub fn get(&self, index: usize) -> &'a [u32]
-        requires { index < 64 }
+        requires { index < BLOCKS }
         ensures block { result.now ≡ block_of index self.now.numbers.now }
         ensures below { All (λ number. number < length self.now.names.now) result.now }
     {
@@ -70,7 +77,7 @@ impl<'a> Blocks<'a> {
 
     /// Whether each number of a block is in a set.
     pub fn is_within(&self, index: usize, set: &NumberSet) -> bool
-        requires { index < 64 }
+        requires { index < BLOCKS }
         ensures { IsTrue result ↔ ((k : ℕ) → has_number k (block_of index self.now.numbers.now) ≡ true → numbers_of set.now k ≡ true) }
     {
         let sets = &self.sets;

@@ -10,13 +10,14 @@ ghost use Rattle.sh_domain.specs.Certificates as claims;
 ghost use Rattle.sh_domain.specs.Knowledge.{AreNumbered};
 ghost use Rattle.sh_domain.specs.NumberSets.{numbers_of};
 ghost use Rattle.sh_demands.specs.Blocks.{block_of};
+ghost use Rattle.sh_demands.specs.declared.blocks.TheConstants.{BLOCKS};
 ghost use Rattle.sh_demands.specs.Drops as spec;
 ghost use Rattle.sh_demands.specs.DropWalks as walks;
 ghost use Rattle.sh_gains.specs.Knowing.{knowing};
 ghost use Rattle.sh_gains.specs.Statics.{listed};
 ghost use Rattle.sh_demands.specs.Reported.{Adds, AddsFirst, AddsSince};
 
-use crate::blocks::Blocks;
+use crate::blocks::{BLOCKS, Blocks};
 use crate::reports::Reports;
 use sh_domain::{Drops, Names, NumberSet, Rows};
 use sh_gains::Known;
@@ -63,7 +64,7 @@ fn tell_block(
     at: u32,
     reports: &mut Reports,
 )
-    requires index { index < 64 }
+    requires index { index < BLOCKS }
     requires few { length blocks.now.names.now ≤ MAX_NAMES }
     requires others { (k : ℕ) → numbers_of others.now k ≡ (not (numbers_of set.now k) && nat_lt k MAX_NAMES) }
     ensures { Adds reports.old reports.new (λ ps. fold (walks.plain_step blocks.now.names.now (numbers_of set.now) at) ps (block_of index blocks.now.numbers.now)) }
@@ -85,23 +86,16 @@ fn tell_set(blocks: &Blocks<'_>, set: &NumberSet, at: u32, reports: &mut Reports
         return;
     }
     let others = others_of(set);
-    for index in 0..64 {
+    for index in 0..BLOCKS {
         tell_block(blocks, index, set, &others, at, reports);
     }
 }
 
 /// The variables that a function may drop, and then the functions, each in byte order. No place is
 /// read again.
-pub fn tell_dropped(
-    blocks: &Blocks<'_>,
-    rows: &Rows,
-    drops: Drops,
-    at: u32,
-    start: usize,
-    reports: &mut Reports,
-)
+pub fn tell_dropped(blocks: &Blocks<'_>, rows: &Rows, drops: Drops, at: u32, reports: &mut Reports)
     requires { AreNumbered blocks.now.names.now }
-    ensures { AddsFirst start reports.old reports.new (λ ps. spec.all_told (length ps) at ps (claims.names_at (claims.in_byte_order blocks.now.names.now) rows.now drops.vars ++ claims.names_at (claims.in_byte_order blocks.now.names.now) rows.now drops.functions)) }
+    ensures { (start : ℕ) → AddsFirst start reports.old reports.new (λ ps. spec.all_told (length ps) at ps (claims.names_at (claims.in_byte_order blocks.now.names.now) rows.now drops.vars ++ claims.names_at (claims.in_byte_order blocks.now.names.now) rows.now drops.functions)) }
 {
     let mut vars = NumberSet::new();
     vars.join_row(rows, drops.vars);
@@ -254,23 +248,7 @@ fn tell_prefix(
     }
 }
 
-fn tell_each_prefix(
-    elements: &[Element],
-    script: &[u8],
-    known: &Known<'_>,
-    at: u32,
-    start: usize,
-    reports: &mut Reports,
-)
-    ensures { AddsSince start reports.old reports.new (λ k ps. fold (walks.prefix_step script.now (knowing known.now).facts k at) ps elements.now) }
-{
-    for element in elements {
-        tell_prefix(element, script, known, at, start, reports);
-    }
-}
-
 /// The names of prefix assignments that are not known to be set.
-#[tactic(auto, using(crate::proofs::DropLemmas::prefixes_told))]
 pub fn tell_prefixes(
     elements: &[Element],
     script: &[u8],
@@ -281,5 +259,7 @@ pub fn tell_prefixes(
 )
     ensures { AddsSince start reports.old reports.new (λ k ps. spec.all_told k at ps (spec.unseen (knowing known.now).facts (elements_from script.now elements.now))) }
 {
-    tell_each_prefix(elements, script, known, at, start, reports)
+    for element in elements {
+        tell_prefix(element, script, known, at, start, reports);
+    }
 }

@@ -1,6 +1,6 @@
 //! The parameters that words expand and that are not surely set, as their places (XCU 2.6.1, 2.6.2,
 //! 2.6.4).
-ghost use Rattle.std.specs.Prelude.{◌≡◌, ◌++◌, ◌∷◌, ◌<◌, [], fold, OnOk, IfOk};
+ghost use Rattle.std.specs.Prelude.{◌++◌, ◌∷◌, [], fold};
 ghost use Rattle.sh_runs.specs.standard.runs.Numbers.{digits};
 ghost use Rattle.sh_domain.specs.Needs.{wanted};
 ghost use Rattle.sh_tree.specs.declared.place.Code.TheVariants.{U1};
@@ -14,10 +14,7 @@ ghost use Rattle.sh_demands.specs.Reported.{Adds, Judges, place};
 use crate::reports::Reports;
 use sh_gains::Known;
 use sh_gains::gains::{enter_operator, gain_action, gain_assigned};
-use sh_tree::{
-    Action, Binary, Code, Expr, Items, ParameterOperator, Part, Span, Special, Subject, Word,
-};
-use std::alloc::{AllocError, Global};
+use sh_tree::{Action, Binary, Code, Expr, ParameterOperator, Part, Span, Special, Subject, Word};
 
 // A place, unless what it needs is known.
 #[tactic(auto, unfolding(sh_domain::specs::Needs::wanted))]
@@ -36,30 +33,14 @@ fn want_variable(name: &[u8], code: Code, at: u32, known: &Known<'_>, reports: &
     want(known.has_variable(name), at, code, name, reports)
 }
 
-// The decimal numeral of a number.
-fn push_digits(number: u16, text: &mut Items<u8>) -> Result<(), AllocError>
-    ensures { OnOk result (text.new ≡ text.old ++ digits number) }
-{
-    if number >= 10 {
-        push_digits(number / 10, text)?;
-    }
-    text.push(b'0' + (number % 10) as u8)
-}
-
-fn digits_of(alloc: Global, number: u16) -> Result<Items<u8>, AllocError>
-    ensures { IfOk result (λ text. text ≡ digits number) }
-{
-    let mut text = Items::new(alloc);
-    push_digits(number, &mut text)?;
-    Ok(text)
-}
-
+// The place of a positional parameter, by its decimal numeral.
+#[tactic(auto, using(crate::proofs::DigitLemmas::numeral))]
 fn report_number(number: u16, at: u32, reports: &mut Reports)
     ensures { Adds reports.old reports.new (λ ps. ps ++ place at U1 (digits number) ∷ []) }
 {
-    match digits_of(*reports.allocator(), number) {
-        Ok(subject) => reports.report(at, Code::U1, subject.as_slice()),
-        Err(AllocError) => reports.report_lost(),
+    match format!(in *reports.allocator(); "{number}") {
+        Ok(numeral) => reports.report(at, Code::U1, numeral.as_bytes()),
+        Err(_) => reports.report_lost(),
     }
 }
 

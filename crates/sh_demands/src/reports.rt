@@ -105,7 +105,7 @@ impl Reports {
 #[derive(Drop)]
 struct Kept {
     places: Vec<Place>,
-    told: Told,
+    told: Subjects,
 }
 
 impl Model for Kept {
@@ -127,7 +127,7 @@ impl Kept {
     {
         Kept {
             places: Vec::new(alloc),
-            told: Told::new(alloc, 0),
+            told: Subjects::new(alloc, 0),
         }
     }
 
@@ -170,18 +170,18 @@ impl Kept {
 
 // The subjects of so many places, from one on.
 #[derive(Drop)]
-struct Told {
+struct Subjects {
     subjects: IndexSet<Vec<u8>>,
     start: usize,
     count: usize,
 }
 
-impl Told {
-    fn new(alloc: Global, start: usize) -> Told
+impl Subjects {
+    fn new(alloc: Global, start: usize) -> Subjects
         ensures start { result.start ≡ start }
         ensures told { (ps : List Place) → IsTold result ps }
     {
-        Told {
+        Subjects {
             subjects: IndexSet::new(alloc),
             start,
             count: 0,
@@ -194,7 +194,7 @@ impl Told {
         ensures told { (ps : List Place) → IsTold self.old ps → IsTold self.new ps }
     {
         if self.start != start {
-            *self = Told::new(*self.subjects.allocator(), start);
+            *self = Subjects::new(*self.subjects.allocator(), start);
         }
     }
 

@@ -70,7 +70,7 @@ fn tell_call(
 )
     ensures { AddsFirst start reports.old reports.new (λ ps. drops.all_told (length ps) at ps (drops.call_drops (spec.function_drops source.now function) name.now (spec.known_behind source.now number (elements_from script.now elements.now)).facts (elements_from script.now elements.now))) }
 {
-    source.tell_function(function, at, start, reports);
+    source.tell_function(function, at, reports);
     tell_builtin(name, at, start, reports);
     let known = source.behind(number, elements, script);
     tell_prefixes(elements, script, &known, at, start, reports)

@@ -113,19 +113,12 @@ impl<'a, 's> Source<'a, 's> {
     }
 
     /// The names that the function of a number may drop, from 1.
-    pub fn tell_function(&self, function: u32, at: u32, start: usize, reports: &mut Reports)
-        ensures { AddsFirst start reports.old reports.new (λ ps. all_told (length ps) at ps ((function_drops self.now function).vars ++ (function_drops self.now function).functions)) }
+    pub fn tell_function(&self, function: u32, at: u32, reports: &mut Reports)
+        ensures { (start : ℕ) → AddsFirst start reports.old reports.new (λ ps. all_told (length ps) at ps ((function_drops self.now function).vars ++ (function_drops self.now function).functions)) }
     {
         match drops_at(self.certificate, function) {
             Some(drops) => {
-                tell_dropped(
-                    &self.blocks,
-                    &self.certificate.rows,
-                    drops,
-                    at,
-                    start,
-                    reports,
-                )
+                tell_dropped(&self.blocks, &self.certificate.rows, drops, at, reports)
             }
             None => (),
         }

@@ -11,7 +11,7 @@ use Rattle.sh_counts.specs.declared.equations.Count.{Count}
 use Rattle.sh_counts.specs.declared.equations.Equation.{Equation}
 use Rattle.sh_counts.specs.declared.equations.Equations.{Equations}
 use Rattle.sh_counts.specs.Equations.{Holds, made, worth}
-use Rattle.sh_counts.specs.Meets.{Changes, IsFresh, Same, equation}
+use Rattle.sh_counts.specs.Changes.{Changes, IsFresh, Same, equation}
 use Rattle.sh_tally.specs.declared.places.Places.{Places}
 use Rattle.sh_tally.specs.Tallies.{IsTallied, claimed}
 

@@ -17,4 +17,4 @@ mod views;
 mod words;
 
 pub use bounds::Tally;
-pub use places::{End, Part, Places};
+pub use places::{ENDS, End, PARTS, Part, Places};

@@ -7,6 +7,12 @@ ghost use Rattle.sh_tally.specs.Views.{command_index, end_place, function_index,
 use sh_counts::{Count, Equations};
 use std::alloc::AllocError;
 
+/// How many counts each number has: four of the command, and the last one of a function.
+pub const PARTS: usize = 5;
+
+/// How many counts a function has.
+pub const ENDS: usize = 3;
+
 /// A place at a command: before it, after it by its status, and each turn of a loop.
 #[derive(Clone, Copy, Debug, PartialEq, Eq)]
 pub enum Part {
@@ -37,7 +43,7 @@ impl Part {
         ensures { result.index ≡ command_index self number }
     {
         Count {
-            index: number as usize * 5 + self.place(),
+            index: number as usize * PARTS + self.place(),
         }
     }
 
@@ -62,7 +68,7 @@ impl End {
         ensures { result.index ≡ function_index self function }
     {
         Count {
-            index: (function as usize * 3 + self.place()) * 5 + 4,
+            index: (function as usize * ENDS + self.place()) * PARTS + (PARTS - 1),
         }
     }
 

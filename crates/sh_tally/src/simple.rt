@@ -1,10 +1,9 @@
 //! The counts after a simple command, and at the entry of the function that it calls
 //! (XCU 2.9.1, 2.15).
 ghost use Rattle.std.specs.Prelude.{◌≡◌, ◌≤◌, ℕ, false, List, None, Some, IfOk, IfSome, map, drop};
-ghost use Rattle.std.specs.List.{list_any};
 ghost use Rattle.sh_tree.specs.Lists.{elements_from};
 ghost use Rattle.sh_tree.specs.standard.program.Syntax.{Word};
-ghost use Rattle.sh_tree.specs.standard.program.Words.{redirects_in, static_of};
+ghost use Rattle.sh_tree.specs.standard.program.Words.{static_of};
 ghost use Rattle.sh_runs.specs.declared.kind.Kind.TheVariants as kind;
 ghost use Rattle.sh_tree.specs.declared.known.KnownName.TheVariants as known;
 ghost use Rattle.sh_table.specs.WordTexts.{text_in};
@@ -13,7 +12,6 @@ ghost use Rattle.sh_domain.specs.Table.{manner_of_name};
 ghost use Rattle.sh_domain.specs.Table as table;
 ghost use Rattle.sh_domain.specs.Views.{counted_by};
 ghost use Rattle.sh_counts.specs.Equations.{made};
-ghost use Rattle.sh_rules.specs.Elements as spec;
 ghost use Rattle.sh_rules.specs.TextBounds.{behind_name};
 ghost use Rattle.sh_rules.specs.Walks as walks;
 ghost use Rattle.sh_tally.specs.Counts.{made_by, shift_step};
@@ -25,6 +23,7 @@ use crate::views::{After, Views};
 use sh_counts::{Change, Equations};
 use sh_operands::{count_behind, positional_at};
 use sh_rules::Around;
+use sh_rules::elements::is_redirected;
 use sh_table::{Kind, WordText, kind_of};
 use sh_tree::{Element, KnownName};
 use sh_visits::{behind_name, first_number};
@@ -73,31 +72,6 @@ fn special_of(of: Kind) -> Option<KnownName>
         Kind::True => None,
         Kind::Utility => None,
     }
-}
-
-#[tactic(auto, unfolding(sh_rules::specs::Elements::redirects))]
-fn redirects(element: &Element) -> bool
-    ensures { result ≡ spec.redirects element.now }
-{
-    match element {
-        Element::Assignment { .. } => false,
-        Element::Word(_) => false,
-        Element::Redirection(_) => true,
-    }
-}
-
-fn any_redirects(elements: &[Element]) -> bool
-    ensures { result ≡ list_any spec.redirects elements.now }
-{
-    elements.iter().any(|element| redirects(element))
-}
-
-// Whether a simple command has redirections.
-#[tactic(auto, using(sh_rules::proofs::ElementLemmas::redirected))]
-fn is_redirected(elements: &[Element]) -> bool
-    ensures { (b : List ℕ) → result ≡ table.is_redirected (redirects_in (elements_from b elements.now)) }
-{
-    any_redirects(elements)
 }
 
 impl Tally<'_> {

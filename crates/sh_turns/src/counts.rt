@@ -10,14 +10,8 @@ use sh_domain::{Certificate, Facts};
 use sh_drafts::kept::facts_at;
 use sh_drafts::lower::lower_args;
 use sh_drafts::{Draft, Part, Place, Subject, fitting, note_place};
-use sh_tally::{Places, Tally};
+use sh_tally::{ENDS, PARTS, Places, Tally};
 use std::alloc::{AllocError, Global};
-
-// How many counts each number has: four of the command, and one of a function.
-const PARTS: usize = 5;
-
-// How many counts a function has.
-const ENDS: usize = 3;
 
 // The part of a function by its rank.
 #[tactic(auto, unfolding(crate::specs::Counts::end_by))]

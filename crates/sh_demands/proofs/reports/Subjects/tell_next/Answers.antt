@@ -1,6 +1,6 @@
 use Rattle.std.proofs.Common.{◌∙◌}
 use Rattle.sh_demands.proofs.KeptLemmas.{told_next}
-use Rattle.sh_demands.proofs.reports.Told.tell_next.Goals as goal
+use Rattle.sh_demands.proofs.reports.Subjects.tell_next.Goals as goal
 
 pub returns-clause-told : goal.returns-clause-told
 returns-clause-told c =

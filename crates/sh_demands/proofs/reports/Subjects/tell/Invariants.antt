@@ -1,6 +1,6 @@
 use Rattle.std.proofs.Common.{◌≡◌, ◌-◌, length}
 use Rattle.sh_demands.specs.Kept.{AreTold}
-use Rattle.sh_demands.proofs.reports.Told.tell.Given as goal
+use Rattle.sh_demands.proofs.reports.Subjects.tell.Given as goal
 
 -- what is told stays right
 abbrev pub invariant-loop-self : goal.invariant-loop-self

@@ -1,6 +1,6 @@
--- What equations are after a count was changed, and after two counts met.
+-- What equations are after a count was changed.
 -- POSIX.1-2024, XCU 2.5.1 (positional parameters), 2.15 (set, shift).
-use Rattle.std.specs.Prelude.{◌≡◌, ◌⊎◌, ◌++◌, ◌∷◌, [], length, Option, Some, None}
+use Rattle.std.specs.Prelude.{◌≡◌, ◌⊎◌, ◌++◌, ◌∷◌, [], length}
 use Rattle.sh_counts.specs.declared.equations.Change.{Change}
 use Rattle.sh_counts.specs.declared.equations.Change.TheVariants.{Raise}
 use Rattle.sh_counts.specs.declared.equations.Count.{Count}
@@ -26,16 +26,3 @@ abbrev pub Changes : Equations → Equations → Count → Change → Count → 
 Changes old new source change count =
     ((change ≡ Raise 0) × (count ≡ source) × Same old new)
     ⊎ (IsFresh old new count × (new.all.items ≡ old.all.items ++ equation count source change ∷ []))
-
--- the count is the lesser of two: both are it, or it is a new one with two equations
-abbrev pub IsLesser : Equations → Equations → Count → Count → Count → Type 0
-IsLesser old new first second count =
-    ((first ≡ second) × (count ≡ first) × Same old new)
-    ⊎ (IsFresh old new count × (new.all.items ≡ old.all.items ++ equation count first (Raise 0) ∷ [] ++ equation count second (Raise 0) ∷ []))
-
--- of the counts of two places the lesser, if runs come to both; else the one that there is
-unfoldable pub Meets : Equations → Equations → Option Count → Option Count → Option Count → Type 0
-Meets old new None other met = (met ≡ other) × Same old new
-Meets old new (Some first) None met = (met ≡ Some first) × Same old new
-Meets old new (Some first) (Some second) None = ⊥
-Meets old new (Some first) (Some second) (Some met) = IsLesser old new first second met
