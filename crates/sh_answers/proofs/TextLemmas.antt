@@ -1,12 +1,11 @@
 -- Texts that are put together piece by piece.
-use Rattle.std.proofs.Common.{◌≡◌, ℕ, List, [], ◌∷◌, ◌++◌, length, map, take, ◌≤◌, sym, ap, ◌∙◌, append_assoc, take_all}
+use Rattle.std.proofs.Common.{◌≡◌, ℕ, List, ◌++◌, length, map, take, ◌≤◌, sym, ap, ◌∙◌, append_assoc, take_all}
 use Rattle.std.specs.List.{flat_map}
 use Rattle.std.proofs.lemmas.List.{length-map}
 use Rattle.std.proofs.lemmas.List.Folds.{flat_map-map}
-use Rattle.sh_domain.specs.declared.rule.FlowRule.{FlowRule}
 use Rattle.sh_answers.specs.declared.verdict.Finding.{Finding}
 use Rattle.sh_answers.specs.Verdicts.{contents_of}
-use Rattle.sh_answers.specs.Texts.{finding_text, report_text, last_line, rule_name_text, command_text, forged_text}
+use Rattle.sh_answers.specs.Texts.{finding_text, report_text, last_line}
 
 -- the findings and the last line
 pub report_done : (out mid new : List ℕ) (fs : List Finding) (n : ℕ) → length fs ≤ n
@@ -18,9 +17,3 @@ report_done out mid new fs n le findings last =
     last ∙ ap (λ l. l ++ last_line (length fs)) (findings ∙ ap (λ l. out ++ flat_map (λ f. finding_text (contents_of f)) l) all ∙ ap (λ l. out ++ l) (sym lines))
     ∙ ap (λ k. (out ++ flat_map finding_text (map contents_of fs)) ++ last_line k) (sym count)
     ∙ append_assoc out (flat_map finding_text (map contents_of fs)) (last_line (length (map contents_of fs)))
-
--- the pieces of a line on a forged certificate
-pub forged_done : (out a b new : List ℕ) (command : ℕ) (rule : FlowRule) → a ≡ out ++ command_text command
-    → b ≡ a ++ rule_name_text rule → new ≡ b ++ 10 ∷ [] → new ≡ out ++ forged_text command rule
-forged_done out a b new command rule first second third =
-    third ∙ ap (λ l. l ++ 10 ∷ []) (second ∙ ap (λ l. l ++ rule_name_text rule) first) ∙ simp append_assoc

@@ -69,11 +69,8 @@ rule_name_text F13 = codes "F13"
 rule_name_text F14 = codes "F14"
 rule_name_text F15 = codes "F15"
 
-abbrev pub command_text : ℕ → List ℕ
-command_text command = codes "forged: command " ++ decimal command ++ codes " breaks "
-
 abbrev pub forged_text : ℕ → FlowRule → List ℕ
-forged_text command rule = command_text command ++ rule_name_text rule ++ 10 ∷ []
+forged_text command rule = codes "forged: command " ++ decimal command ++ (codes " breaks " ++ rule_name_text rule ++ 10 ∷ [])
 
 abbrev pub verdict_text : Verdict → List ℕ
 verdict_text Pass = report_text []

@@ -19,12 +19,10 @@ impl<T> Counted<T> {
         ensures inner { result.inner ≡ inner }
         ensures fresh { result.counts ≡ no_counts }
     {
-        let counts = Counts {
-            errors: 0,
-            interruptions: 0,
-            empty: 0,
-        };
-        Counted { inner, counts }
+        Counted {
+            inner,
+            counts: Counts::NONE,
+        }
     }
 }
 

@@ -16,6 +16,15 @@ pub struct Counts {
     pub empty: u64,
 }
 
+impl Counts {
+    /// Nothing went wrong.
+    pub const NONE: Counts = Counts {
+        errors: 0,
+        interruptions: 0,
+        empty: 0,
+    };
+}
+
 /// Why a call of an end moved no byte.
 #[derive(Clone, Copy, Debug, PartialEq, Eq)]
 pub enum Broken {

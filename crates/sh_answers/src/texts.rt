@@ -142,15 +142,12 @@ fn push_last(out: &mut Vec<u8>, count: usize) -> Result<(), AllocError>
 fn push_forged(out: &mut Vec<u8>, command: u32, rule: FlowRule) -> Result<(), AllocError>
     ensures { OnOk result (out.new.items ≡ out.old.items ++ text.forged_text command rule) }
 {
-    push_command(out, command)?;
-    push_text(out, rule_name(rule))?;
-    push_text(out, "\n")
-}
-
-fn push_command(out: &mut Vec<u8>, command: u32) -> Result<(), AllocError>
-    ensures { OnOk result (out.new.items ≡ out.old.items ++ text.command_text command) }
-{
-    write!(out, "forged: command {command} breaks ").map_err(|_error| AllocError)
+    write!(
+        out,
+        "forged: command {command} breaks {}\n",
+        rule_name(rule)
+    )
+    .map_err(|_error| AllocError)
 }
 
 fn rule_name(rule: FlowRule) -> &'static str

@@ -9,7 +9,7 @@ ghost use Rattle.sh_facts.specs.Fields as field;
 
 use crate::compact_forms::{CompactCounts, TurnText, compact_counts_in, start_in, turn_in};
 use crate::forms::FactText;
-use crate::lines::behind_functions;
+use crate::lines::after_functions;
 use crate::splits::cut;
 
 /// Whether the first line is that of a compact certificate.
@@ -34,12 +34,12 @@ fn is_first(line: &[u8]) -> bool
 pub fn test_compact(text: &[u8]) -> Result<(), u32>
     ensures { field.outcome result ≡ field.outcome (compact.read_compact_sheet text.now) }
 {
-    let left = behind_compact(text)?;
-    let (counts, left) = behind_three(left)?;
-    let (_, left) = behind_start(left)?;
-    let left = behind_turns(counts.loops, left)?;
+    let left = after_compact_version(text)?;
+    let (counts, left) = after_compact_counts(left)?;
+    let (_, left) = after_start(left)?;
+    let left = after_turns(counts.loops, left)?;
     let next = 4 + counts.loops as u32;
-    let left = behind_functions(next, counts.functions, left)?;
+    let left = after_functions(next, counts.functions, left)?;
     if left.is_empty() {
         Ok(())
     } else {
@@ -48,7 +48,7 @@ pub fn test_compact(text: &[u8]) -> Result<(), u32>
 }
 
 /// What follows the first line.
-pub fn behind_compact(text: &[u8]) -> Result<&[u8], u32>
+pub fn after_compact_version(text: &[u8]) -> Result<&[u8], u32>
     ensures { field.text_left result ≡ field.left_of (read_line compact.is_compact_line 1 text.now) }
 {
     let Some((line, left)) = cut(text, b'\n') else {
@@ -58,7 +58,7 @@ pub fn behind_compact(text: &[u8]) -> Result<&[u8], u32>
 }
 
 /// The counts in the second line, and what follows it.
-pub fn behind_three(text: &[u8]) -> Result<(CompactCounts, &[u8]), u32>
+pub fn after_compact_counts(text: &[u8]) -> Result<(CompactCounts, &[u8]), u32>
     ensures { fields.counts_left result ≡ read_line compact.compact_counts_in 2 text.now }
 {
     let Some((line, left)) = cut(text, b'\n') else {
@@ -71,7 +71,7 @@ pub fn behind_three(text: &[u8]) -> Result<(CompactCounts, &[u8]), u32>
 }
 
 /// The facts of the start in the third line, and what follows it.
-pub fn behind_start(text: &[u8]) -> Result<(FactText<'_>, &[u8]), u32>
+pub fn after_start(text: &[u8]) -> Result<(FactText<'_>, &[u8]), u32>
     ensures { fields.start_left result ≡ read_line compact.start_in 3 text.now }
 {
     let Some((line, left)) = cut(text, b'\n') else {
@@ -93,7 +93,7 @@ pub fn turn_line(least: u32, text: &[u8]) -> Option<(TurnText<'_>, &[u8])>
 }
 
 // What follows the lines of so many loops, from the fourth line on.
-fn behind_turns(count: u16, text: &[u8]) -> Result<&[u8], u32>
+fn after_turns(count: u16, text: &[u8]) -> Result<&[u8], u32>
     ensures { field.text_left result ≡ field.left_of (compact.read_turns 4 0 count text.now) }
 {
     let mut left = text;

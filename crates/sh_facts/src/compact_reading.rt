@@ -9,7 +9,7 @@ ghost use Rattle.sh_facts.specs.Fields.{outcome};
 ghost use Rattle.sh_facts.specs.ReadParts.{Misses};
 
 use crate::compact_lines::{
-    behind_compact, behind_start, behind_three, is_compact, test_compact, turn_line,
+    after_compact_counts, after_compact_version, after_start, is_compact, test_compact, turn_line,
 };
 use crate::reading::{read_certificate, read_facts, read_functions};
 use indexmap::IndexMap;
@@ -80,14 +80,14 @@ fn read_lines(
     ensures reads { part.AnswersCompact text.now names.now (loops_of commands.now) functions result }
     ensures sized { IfOk result (λ c. c.rows.count ≡ length names.now) }
 {
-    let Ok(left) = behind_compact(text) else {
-        return Err(Refusal::CertShape);
+    let Ok(left) = after_compact_version(text) else {
+        unreachable!()
     };
-    let Ok((counts, left)) = behind_three(left) else {
-        return Err(Refusal::CertShape);
+    let Ok((counts, left)) = after_compact_counts(left) else {
+        unreachable!()
     };
-    let Ok((start, left)) = behind_start(left) else {
-        return Err(Refusal::CertShape);
+    let Ok((start, left)) = after_start(left) else {
+        unreachable!()
     };
     if !counts.has(commands.len(), functions) {
         return Err(Refusal::CertShape);

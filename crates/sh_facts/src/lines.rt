@@ -13,11 +13,11 @@ use crate::splits::cut;
 pub fn test_lines(text: &[u8]) -> Result<(), u32>
     ensures { field.outcome result ≡ field.outcome (form.read_sheet text.now) }
 {
-    let left = behind_version(text)?;
-    let (counts, left) = behind_counts(left)?;
-    let left = behind_commands(counts.commands, left)?;
+    let left = after_version(text)?;
+    let (counts, left) = after_counts(left)?;
+    let left = after_commands(counts.commands, left)?;
     let next = 3 + counts.commands as u32;
-    let left = behind_functions(next, counts.functions, left)?;
+    let left = after_functions(next, counts.functions, left)?;
     if left.is_empty() {
         Ok(())
     } else {
@@ -26,7 +26,7 @@ pub fn test_lines(text: &[u8]) -> Result<(), u32>
 }
 
 /// What follows the first line, if that names this version of the format.
-pub fn behind_version(text: &[u8]) -> Result<&[u8], u32>
+pub fn after_version(text: &[u8]) -> Result<&[u8], u32>
     ensures { field.text_left result ≡ field.left_of (form.read_line form.is_first 1 text.now) }
 {
     let Some((line, left)) = cut(text, b'\n') else {
@@ -42,7 +42,7 @@ fn is_first(line: &[u8]) -> bool
 }
 
 /// The counts in the second line, and what follows it.
-pub fn behind_counts(text: &[u8]) -> Result<(Counts, &[u8]), u32>
+pub fn after_counts(text: &[u8]) -> Result<(Counts, &[u8]), u32>
     ensures { field.counts_left result ≡ form.read_line form.counts_in 2 text.now }
 {
     let Some((line, left)) = cut(text, b'\n') else {
@@ -71,7 +71,7 @@ pub fn function_line(number: u16, text: &[u8]) -> Option<(FunctionTexts<'_>, &[u
 }
 
 // What follows the lines of so many commands, from the third line on.
-fn behind_commands(count: u16, text: &[u8]) -> Result<&[u8], u32>
+fn after_commands(count: u16, text: &[u8]) -> Result<&[u8], u32>
     ensures { field.text_left result ≡ field.left_of (form.read_lines form.command_in 3 1 count text.now) }
 {
     let mut left = text;
@@ -85,7 +85,7 @@ fn behind_commands(count: u16, text: &[u8]) -> Result<&[u8], u32>
 }
 
 /// What follows the lines of so many functions, whose first has this number.
-pub fn behind_functions(first: u32, count: u16, text: &[u8]) -> Result<&[u8], u32>
+pub fn after_functions(first: u32, count: u16, text: &[u8]) -> Result<&[u8], u32>
     requires { first < 2 ^ 31 }
     ensures { field.text_left result ≡ field.left_of (form.read_lines form.function_in first 1 count text.now) }
 {

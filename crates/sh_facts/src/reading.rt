@@ -10,7 +10,7 @@ ghost use Rattle.sh_facts.specs.ReadParts as part;
 
 use crate::finding::number_from;
 use crate::forms::{CommandTexts, FactText, FunctionTexts, SetTexts};
-use crate::lines::{behind_counts, behind_version, command_line, function_line, test_lines};
+use crate::lines::{after_counts, after_version, command_line, function_line, test_lines};
 use crate::splits::first_piece;
 use indexmap::IndexMap;
 use sh_domain::{
@@ -63,11 +63,11 @@ fn read_lines(
     ensures reads { fit.Answers text.now names.now (fit.loops_of commands.now) functions result }
     ensures sized { IfOk result (λ c. c.rows.count ≡ length names.now) }
 {
-    let Ok(left) = behind_version(text) else {
-        return Err(Refusal::CertShape);
+    let Ok(left) = after_version(text) else {
+        unreachable!()
     };
-    let Ok((counts, left)) = behind_counts(left) else {
-        return Err(Refusal::CertShape);
+    let Ok((counts, left)) = after_counts(left) else {
+        unreachable!()
     };
     if counts.commands as usize != commands.len() {
         return Err(Refusal::CertShape);

@@ -11,10 +11,10 @@ use sh_domain::{Names, RowId, Rows};
 const BITS: u32 = 64;
 
 /// The room that is left after the names of a row and one more byte.
-pub fn behind_row(rows: &Rows, names: &Names, row: RowId, room: usize) -> Option<usize>
+pub fn room_after_row(rows: &Rows, names: &Names, row: RowId, room: usize) -> Option<usize>
     ensures { Leaves room (length (text.names_text (claims.names_at (claims.in_byte_order names.now) rows.now row)) + 1) result }
 {
-    let left = behind_names(rows, names, row, room)?;
+    let left = room_after_names(rows, names, row, room)?;
     if left < room {
         Some(left)
     } else {
@@ -23,7 +23,7 @@ pub fn behind_row(rows: &Rows, names: &Names, row: RowId, room: usize) -> Option
 }
 
 // After the names of a row, each with a byte after it.
-fn behind_names(rows: &Rows, names: &Names, row: RowId, room: usize) -> Option<usize>
+fn room_after_names(rows: &Rows, names: &Names, row: RowId, room: usize) -> Option<usize>
     ensures { Leaves room (bytes_from rows.now row names.now 0) result }
 {
     let count = names.count();
@@ -31,14 +31,14 @@ fn behind_names(rows: &Rows, names: &Names, row: RowId, room: usize) -> Option<u
     let mut from = 0;
     while from < count {
         let to = from + (count - from).min(BITS - from % BITS);
-        left = behind_word(rows, names, row, from, to, left)?;
+        left = room_after_word(rows, names, row, from, to, left)?;
         from = to;
     }
     Some(left)
 }
 
 // After those whose bits are in one word. Most words have none.
-fn behind_word(
+fn room_after_word(
     rows: &Rows,
     names: &Names,
     row: RowId,
@@ -54,7 +54,7 @@ fn behind_word(
     if has_none(rows, row, from / BITS) {
         return Some(room);
     }
-    behind_numbers(rows, names, row, from, to, room)
+    room_after_numbers(rows, names, row, from, to, room)
 }
 
 // Whether a row has none of the numbers whose bits are in the word of this index.
@@ -71,7 +71,7 @@ fn has_none(rows: &Rows, row: RowId, index: u32) -> bool
 }
 
 // After those from one number up to another.
-fn behind_numbers(
+fn room_after_numbers(
     rows: &Rows,
     names: &Names,
     row: RowId,
@@ -85,13 +85,19 @@ fn behind_numbers(
 {
     let mut left = room;
     for number in from..to {
-        left = behind_number(rows, names, row, number, left)?;
+        left = room_after_number(rows, names, row, number, left)?;
     }
     Some(left)
 }
 
 // After the name of a number and one more byte, if the number is in the row.
-fn behind_number(rows: &Rows, names: &Names, row: RowId, number: u32, room: usize) -> Option<usize>
+fn room_after_number(
+    rows: &Rows,
+    names: &Names,
+    row: RowId,
+    number: u32,
+    room: usize,
+) -> Option<usize>
     requires { number < length names.now }
     ensures { LeavesNames rows.now row names.now number (number + 1) room result }
 {

@@ -54,10 +54,7 @@ fn push_first(out: &mut Vec<u8>) -> Result<(), AllocError>
 fn push_counts(out: &mut Vec<u8>, commands: usize, functions: usize) -> Result<(), AllocError>
     ensures { OnOk result (out.new.items ≡ out.old.items ++ text.line (text.count_fields commands functions)) }
 {
-    write!(out, "commands {commands}").map_err(|_error| AllocError)?;
-    write!(out, " functions {functions}").map_err(|_error| AllocError)?;
-    out.push(b'\n')?;
-    Ok(())
+    write!(out, "commands {commands} functions {functions}\n").map_err(|_error| AllocError)
 }
 
 fn push_entries(

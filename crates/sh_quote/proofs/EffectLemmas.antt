@@ -19,7 +19,8 @@ use Rattle.sh_runs.specs.standard.runs.Work.{Work, Saved, Start, Effect, goes, e
 use Rattle.sh_runs.proofs.EnvironmentLemmas.{all_removed_kept}
 use Rattle.sh_runs.proofs.ExpansionLemmas.{Closed, word_stays}
 use Rattle.sh_runs.proofs.ProcessLemmas.{StartHolds, StartsHold, NextHolds}
-use Rattle.sh_quote.specs.Invariant.{steady_definition, steady_field, watched, is_good, WordGood, ItemsGood, CommandGood, SavedGood, ShownGood, WorkGood, AllWorkGood, EnvironmentGood}
+use Rattle.sh_quote.specs.Steady.{steady_definition, steady_field}
+use Rattle.sh_quote.specs.Invariant.{watched, is_good, WordGood, ItemsGood, CommandGood, SavedGood, ShownGood, WorkGood, AllWorkGood, EnvironmentGood}
 use Rattle.sh_quote.proofs.SteadyLemmas.{either_or}
 
 -- the one name that is IFS

@@ -1,7 +1,6 @@
 -- Operands by which a utility could set IFS, by what is kept of them.
-use Rattle.std.proofs.Common.{◌≡◌, ℕ, ◌<◌, ◌≤◌, ◌-◌, ◌==◌, Bool, true, false, ◌&&◌, ◌||◌, List, [], ◌∷◌, length, take, drop, get_or, map, Some, None, slice_get, refl, sym, ap, ap₂, ◌∙◌, arith}
+use Rattle.std.proofs.Common.{◌≡◌, ℕ, ◌<◌, ◌≤◌, ◌-◌, Bool, true, ◌&&◌, ◌||◌, List, [], ◌∷◌, length, take, drop, get_or, map, Some, None, slice_get, refl, sym, ap, ap₂, ◌∙◌, arith}
 use Rattle.std.specs.List.{list_any, list_all}
-use Rattle.std.specs.Str.{bytes_eq}
 use Rattle.std.proofs.lemmas.Option.{same_Some}
 use Rattle.std.proofs.lemmas.List.{take_all}
 use Rattle.sh_tree.specs.declared.tree.Element.{Element}
@@ -10,21 +9,8 @@ use Rattle.sh_tree.specs.standard.Words.{word_of, words_of}
 use Rattle.sh_runs.specs.Profile.{Static}
 use Rattle.sh_table.specs.WordTexts.{text_in}
 use Rattle.sh_table.specs.declared.word_text.WordText.{WordText}
-use Rattle.sh_quote.specs.Steady.{ifs_and_equals}
 use Rattle.sh_quote.specs.Elements.{split}
 use Rattle.sh_quote.specs.Operands.{names_other, is_one_field, first_options, all_options, parts_declared, all_declared, is_ifs_static}
-
-never : (x : Bool) → (x && false) ≡ false
-never true = refl
-never false = refl
-
--- a text of less than four bytes
-pub too_short : (t : List ℕ) → length t < 4 → bytes_eq (take 4 t) ifs_and_equals ≡ false
-too_short [] h = refl
-too_short (a ∷ []) h = never (a == 73)
-too_short (a ∷ b ∷ []) h = ap (λ y. (a == 73) && y) (never (b == 70)) ∙ never (a == 73)
-too_short (a ∷ b ∷ c ∷ []) h = ap (λ y. (a == 73) && ((b == 70) && y)) (never (c == 83)) ∙ ap (λ y. (a == 73) && y) (never (b == 70)) ∙ never (a == 73)
-too_short (a ∷ b ∷ c ∷ d ∷ t) h = absurd (omega (arith, h))
 
 -- words, one after another
 

@@ -34,11 +34,11 @@ use Rattle.sh_runs.proofs.TextLemmas.{quotations_one}
 use Rattle.sh_runs.proofs.UnsplitLemmas.{is_still_part, are_still, still_never_splits, whole_never_splits}
 use Rattle.sh_domain.specs.Operands.{statics}
 use Rattle.sh_quote.specs.Places.{told_at, part_places, parts_places, word_places}
-use Rattle.sh_quote.specs.Steady.{is_static, steady_assignment, steady_text, steady_declared, steady_operand, steady_getopts}
-use Rattle.sh_quote.specs.Invariant.{steady_field, watched, WordGood, RedirectsGood, ValueGood, ValuesGood, SplitGood, OperandsGood, SteadyGetopts, Steady, FieldsGood, LeftGood, CommandGood, SavedGood, ShownGood, WorkGood, AllWorkGood, EnvironmentGood}
+use Rattle.sh_quote.specs.Steady.{is_static, steady_assignment, steady_field, steady_text, steady_declared, steady_operand, steady_getopts}
+use Rattle.sh_quote.specs.Invariant.{watched, WordGood, RedirectsGood, ValueGood, ValuesGood, SplitGood, OperandsGood, SteadyGetopts, Steady, FieldsGood, LeftGood, CommandGood, SavedGood, ShownGood, WorkGood, AllWorkGood, EnvironmentGood}
 use Rattle.sh_quote.proofs.EffectLemmas.{set_good, showing_good, hiding_good, restored_good, had_fits, definitions_good, unset_good, read_good, option_good, directory_good, StateGood, expands, EffectGood, goes_good, ends_good, expanded_good, either_good, unless_good}
 use Rattle.sh_quote.proofs.GoodLemmas.{nil_parts}
-use Rattle.sh_quote.proofs.SteadyLemmas.{assignment_steady, text_steady, declared_steady}
+use Rattle.sh_quote.proofs.SteadyLemmas.{assignment_steady, declared_steady}
 
 -- A word whose places are none
 
@@ -154,7 +154,7 @@ module _ (numbers : Bool) where
     unfolding steady_declared
     text_declared q h = cc
 
-    some_text : (v : Option Text) → steady_text v ≡ true → (t : Text) × (v ≡ Some t) × (steady_text (Some t) ≡ true)
+    some_text : (v : Option Text) → steady_text v ≡ true → (t : Text) × (v ≡ Some t) × (steady_field t ≡ true)
     unfolding steady_text
     some_text None h = absurd (false≢true h)
     some_text (Some t) h = (t, refl, h)
@@ -164,7 +164,7 @@ module _ (numbers : Bool) where
     form_steady (Some x) q h = one_steady _ (declared_steady w x q (form_declared x q h) f status (fresh e a.given) refl)
     form_steady None q h =
         let t = some_text (static_of w) (text_declared q h) in
-        subst (λ ts. list_all steady_field ts ≡ true) (sym (one_static t.0 t.1)) (one_steady t.0 (text_steady t.0 t.2))
+        subst (λ ts. list_all steady_field ts ≡ true) (sym (one_static t.0 t.1)) (one_steady t.0 t.2)
 
     -- the operands of `getopts`: a static one that is not IFS
     operand_static : steady_operand w ≡ true → (t : Text) × (static_of w ≡ Some t) × (is_ifs t ≡ false)

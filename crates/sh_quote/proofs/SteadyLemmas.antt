@@ -1,10 +1,9 @@
 -- IFS stays steady where the rules require it: the values that assignments and declarations give
 -- it, and what an expansion sets.
-use Rattle.std.proofs.Common.{◌≡◌, ℕ, ◌+◌, ◌==◌, ◌<◌, Bool, true, false, not, ◌||◌, if◌then◌else◌, Option, Some, None, unwrap_or, option_map, List, [], ◌∷◌, ◌++◌, length, take, drop, codes, bytes_eq, arith, refl, sym, ap, ap₂, subst, ◌∙◌, eqb-true, length-take-le}
-use Rattle.std.proofs.lemmas.Bool.{and_parts, false≢true, true≢false}
+use Rattle.std.proofs.Common.{◌≡◌, ℕ, ◌+◌, Bool, true, false, not, ◌||◌, if◌then◌else◌, Option, Some, None, unwrap_or, option_map, List, [], ◌∷◌, ◌++◌, take, drop, refl, sym, ap₂, subst, ◌∙◌}
+use Rattle.std.proofs.lemmas.Bool.{false≢true, true≢false}
 use Rattle.std.proofs.lemmas.Option.{same_Some, none-some}
-use Rattle.std.proofs.lemmas.Slice.Eq.{bytes_eq-Decides}
-use Rattle.sh_tree.specs.standard.language.Bytes.{is_first, name_length}
+use Rattle.sh_tree.specs.standard.language.Bytes.{name_length}
 use Rattle.sh_tree.specs.standard.language.Commands.{is_assignment}
 use Rattle.sh_tree.specs.standard.program.Syntax as p
 use Rattle.sh_tree.specs.standard.program.Syntax.{Text}
@@ -15,9 +14,8 @@ use Rattle.sh_runs.specs.standard.runs.Expansion.{Literal, Piece, Bytes, in_one,
 use Rattle.sh_runs.specs.standard.runs.Operands.{definition_in}
 use Rattle.sh_runs.specs.standard.runs.States.{State}
 use Rattle.sh_runs.proofs.StaticLemmas.{Joins, joined_some, unless}
-use Rattle.sh_runs.proofs.TextLemmas.{word_writes, Assigns, assignment_front, first_below}
-use Rattle.sh_quote.specs.Steady.{steady_value, steady_assignment, ifs_and_equals, steady_text}
-use Rattle.sh_quote.specs.Invariant.{steady_definition, steady_field}
+use Rattle.sh_runs.proofs.TextLemmas.{word_writes, Assigns, assignment_front}
+use Rattle.sh_quote.specs.Steady.{steady_value, steady_assignment, steady_definition, steady_field}
 
 -- Values
 
@@ -49,37 +47,6 @@ unfolding steady_assignment
 assignment_steady x h e f status s l = value_steady x.1 (either_or (is_ifs x.0) (steady_value x.1) h e) f status s l
 
 -- Fields of `export` and `readonly`
-
--- a text that begins with a name of three bytes and `=`
-front_of : (t : Text) (name : Text) → length name ≡ 3 → take 3 t ≡ name → is_first (λ c. c == 61) (drop 3 t) ≡ true → take 4 t ≡ name ++ 61 ∷ []
-unfolding is_first
-front_of [] name l e h = absurd (false≢true h)
-front_of (a ∷ []) name l e h = absurd (false≢true h)
-front_of (a ∷ b ∷ []) name l e h = absurd (false≢true h)
-front_of (a ∷ b ∷ c ∷ []) name l e h = absurd (false≢true h)
-front_of (a ∷ b ∷ c ∷ d ∷ t) name l e h = ap (λ n. a ∷ b ∷ c ∷ n ∷ []) (eqb-true d 61 h) ∙ ap (λ n. n ++ 61 ∷ []) e
-
-pub text_steady : (t : Text) → steady_text (Some t) ≡ true → steady_field t ≡ true
-unfolding steady_text steady_definition definition_in is_assignment
-text_steady t h = go (is_assignment t) refl
-  where
-    n : ℕ
-    n = name_length t
-
-    named : is_first (λ c. c == 61) (drop n t) ≡ true → is_ifs (take n t) ≡ true → is_steady (Some (drop (n + 1) t)) ≡ true
-    named k e =
-        let below : n < length t = first_below (λ c. c == 61) n t k in
-        let same : take n t ≡ codes "IFS" = (bytes_eq-Decides (take n t) (codes "IFS")).0 e in
-        let long : length (take n t) ≡ n = length-take-le n t (omega arith) in
-        let three : n ≡ 3 = sym long ∙ ap length same in
-        let front : take 4 t ≡ ifs_and_equals =
-        front_of t (codes "IFS") refl (subst (λ k. take k t ≡ codes "IFS") three same) (subst (λ j. is_first (λ c. c == 61) (drop j t) ≡ true) three k) in
-        subst (λ j. is_steady (Some (drop (j + 1) t)) ≡ true) (sym three)
-        (either_or (bytes_eq (take 4 t) ifs_and_equals) (is_steady (Some (drop 4 t))) h ((bytes_eq-Decides (take 4 t) ifs_and_equals).1 front))
-
-    go : (b : Bool) → is_assignment t ≡ b → steady_definition (if b then Some (take n t, drop (n + 1) t) else None) ≡ true
-    go true e = or_either (is_ifs (take n t)) (is_steady (Some (drop (n + 1) t))) (named (and_parts (not (n == 0)) (is_first (λ c. c == 61) (drop n t)) e).1)
-    go false e = refl
 
 -- plain bytes before a word are before its text
 text_before : (v : Text) (w : p.Word) (u r : Text) → word_text (before_word v w) ≡ Some u → ((x : Text) → word_text w ≡ Some x → r ≡ x) → v ++ r ≡ u

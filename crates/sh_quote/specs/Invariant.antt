@@ -1,7 +1,7 @@
 -- What stays true of every process while a script runs whose expansions are quoted: each command
 -- that is left keeps the rules, and IFS separates no numbers where the rules count on it.
 -- POSIX.1-2024, XCU 2.6.5 (field splitting), 2.9 (shell commands).
-use Rattle.std.specs.Prelude.{◌≡◌, ◌==◌, Bool, true, false, not, ◌&&◌, ◌||◌, List, [], ◌∷◌, ◌++◌, length, codes, Option, Some, None, is_some, unwrap_or, flat_map}
+use Rattle.std.specs.Prelude.{◌≡◌, ◌==◌, Bool, true, false, not, ◌&&◌, ◌||◌, List, [], ◌∷◌, ◌++◌, length, codes, Some, is_some, unwrap_or, flat_map}
 use Rattle.std.specs.List.{list_any, list_all}
 use Rattle.sh_tree.specs.standard.program.Syntax as p
 use Rattle.sh_tree.specs.standard.program.Syntax.{Text}
@@ -21,15 +21,7 @@ use Rattle.sh_runs.specs.standard.runs.Steps.{opened}
 use Rattle.sh_runs.specs.standard.runs.Work.{Work, Items, Links, Pipeline, Negation, Command, Words, Prepare, Utility, Call, Return, Compound, If, Then, Test, Again, ForWords, ForFields, Clauses, Patterns, Fall, Saved}
 use Rattle.sh_domain.specs.Operands.{statics}
 use Rattle.sh_quote.specs.Places.{word_places, split_words}
-use Rattle.sh_quote.specs.Steady.{is_static, steady_command, steady_assignment, steady_declared, steady_operand, steady_getopts}
-
--- what a field of `export` or `readonly` sets keeps IFS steady
-unfoldable pub steady_definition : Option (Text × Text) → Bool
-steady_definition None = true
-steady_definition (Some x) = not (is_ifs x.0) || is_steady (Some x.1)
-
-abbrev pub steady_field : Text → Bool
-steady_field t = steady_definition (o.definition_in t)
+use Rattle.sh_quote.specs.Steady.{is_static, steady_command, steady_assignment, steady_field, steady_declared, steady_operand, steady_getopts}
 
 -- whether the rules count on numbers that splitting does not change
 module _ (numbers : Bool) where

@@ -1,8 +1,7 @@
 -- When IFS separates no numbers, whatever a script does: a look at its whole text.
 -- POSIX.1-2024, XCU 2.6.5 (field splitting), 2.15 (export, readonly), 3 (getopts, read).
-use Rattle.std.specs.Prelude.{Bool, true, false, not, ◌&&◌, ◌||◌, List, [], ◌∷◌, ◌++◌, take, drop, codes, Option, Some, None, is_some, unwrap_or, option_map}
+use Rattle.std.specs.Prelude.{Bool, true, false, not, ◌&&◌, ◌||◌, List, [], ◌∷◌, ◌++◌, Option, Some, None, is_some, unwrap_or, option_map}
 use Rattle.std.specs.List.{list_any, list_all}
-use Rattle.std.specs.Str.{bytes_eq}
 use Rattle.sh_tree.specs.standard.program.Syntax as p
 use Rattle.sh_tree.specs.standard.program.Syntax.{Text, Word}
 use Rattle.sh_tree.specs.standard.program.Words.{static_of, assignment_in, words_in, operands_in, redirects_in, assignments_in}
@@ -12,6 +11,7 @@ use Rattle.sh_runs.specs.Quoting.{are_quotations, word_mentions, word_assigns, i
 use Rattle.sh_runs.specs.declared.kind.Kind.{Kind}
 use Rattle.sh_tree.specs.declared.known.KnownName.TheVariants as known
 use Rattle.sh_runs.specs.declared.kind.Kind.TheVariants as kind
+use Rattle.sh_runs.specs.standard.runs.Operands.{definition_in}
 use Rattle.sh_runs.specs.standard.runs.Steps.{opened}
 use Rattle.sh_domain.specs.Operands.{read_names}
 
@@ -48,13 +48,18 @@ steady_value w = unwrap_or (option_map (λ t. is_steady (Some t)) (static_of w))
 unfoldable pub steady_assignment : Text × Word → Bool
 steady_assignment x = not (is_ifs x.0) || steady_value x.1
 
-abbrev pub ifs_and_equals : Text
-ifs_and_equals = codes "IFS="
+-- what a field of `export` or `readonly` sets keeps IFS steady
+unfoldable pub steady_definition : Option (Text × Text) → Bool
+steady_definition None = true
+steady_definition (Some x) = not (is_ifs x.0) || is_steady (Some x.1)
 
--- a static operand that gives IFS a value, as `export` and `readonly` read it
+abbrev pub steady_field : Text → Bool
+steady_field t = steady_definition (definition_in t)
+
+-- a static operand of `export` or `readonly`
 unfoldable pub steady_text : Option Text → Bool
 steady_text None = false
-steady_text (Some t) = not (bytes_eq (take 4 t) ifs_and_equals) || is_steady (Some (drop 4 t))
+steady_text (Some t) = steady_field t
 
 -- an operand of `export` or `readonly`: an assignment in form, or static
 unfoldable pub steady_declared : Word → Bool

@@ -14,4 +14,3 @@ mod unquoted;
 mod values;
 
 pub use places::check_quotes;
-pub use steady::steady_ifs;

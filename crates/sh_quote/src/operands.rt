@@ -1,7 +1,6 @@
 //! Operands by which a utility could set IFS (XCU 2.15, 3).
-ghost use Rattle.std.specs.Prelude.{◌≡◌, ◌≤◌, true, false, length, take, map, option_map};
+ghost use Rattle.std.specs.Prelude.{◌≡◌, map, option_map};
 ghost use Rattle.std.specs.List.{list_any, list_all};
-ghost use Rattle.std.specs.Str.{bytes_eq};
 ghost use Rattle.sh_tree.specs.standard.Words.{words_of};
 ghost use Rattle.sh_table.specs.WordTexts.{text_in};
 ghost use Rattle.sh_quote.specs.Steady as steady;
@@ -16,22 +15,17 @@ use sh_tree::{Element, KnownName, Part, Word, command_name};
 
 // `export` and `readonly`
 
-#[tactic(auto, using(crate::proofs::OperandLemmas::too_short))]
-fn begins_with_ifs(text: &[u8]) -> bool
-    ensures value { result ≡ bytes_eq (take 4 text.now) steady.ifs_and_equals }
-    ensures within { result ≡ true → 4 ≤ length text.now }
-{
-    text.len() >= 4 && &text[..4] == b"IFS=".as_slice()
-}
-
 // A static operand, which may give IFS a value.
-#[tactic(auto, unfolding(crate::specs::Steady::steady_text))]
+#[tactic(auto, unfolding(crate::specs::Steady::steady_text, crate::specs::Steady::steady_definition))]
 fn text_is_steady(text: Option<&[u8]>) -> bool
     ensures { result ≡ steady.steady_text (option_map (λ t. t.now) text.entry) }
 {
     match text {
         None => false,
-        Some(text) => !begins_with_ifs(text) || is_steady(&text[4..]),
+        Some(text) => match definition_in(text) {
+            Some((name, value)) => !is_ifs(name) || is_steady(value),
+            None => true,
+        },
     }
 }
 

@@ -83,20 +83,20 @@ fn at_unless(whole: bool, at: u32) -> Option<u32>
     if whole { None } else { Some(at) }
 }
 
-/// Where an expansion outside quotes is reported; `numbers` says whether numbers stay whole.
+/// The offset at which a part outside quotes is reported, if it is.
 #[tactic(auto, using(crate::proofs::QuotationLemmas::told_parts))]
-pub fn told(part: &Part, numbers: bool) -> Option<u32>
-    ensures { (b : List ℕ) → spec.told result ≡ spec.part_told b numbers part.now }
+pub fn reported_at(part: &Part, are_numbers_whole: bool) -> Option<u32>
+    ensures { (b : List ℕ) → spec.told result ≡ spec.part_told b are_numbers_whole part.now }
 {
     match part {
         Part::Param(param) => {
-            let number = numbers && gives_number(param.subject, &param.operator);
+            let number = are_numbers_whole && gives_number(param.subject, &param.operator);
             at_unless(
                 number || is_quoted_alternative(&param.operator),
                 param.span.start,
             )
         }
-        Part::Arith(span, _) => at_unless(numbers, span.start),
+        Part::Arith(span, _) => at_unless(are_numbers_whole, span.start),
         Part::Command(_, span, _) => Some(span.start),
         Part::Plain(_) => None,
         Part::Escaped(_) => None,

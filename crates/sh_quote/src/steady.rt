@@ -1,5 +1,5 @@
 //! Whether IFS separates numbers anywhere in a script.
-ghost use Rattle.std.specs.Prelude.{◌≡◌, true, ◌&&◌, Option};
+ghost use Rattle.std.specs.Prelude.{◌≡◌, true, Option};
 ghost use Rattle.sh_tree.specs.standard.program.Trees.{script_of};
 ghost use Rattle.sh_runs.specs.Calls as table;
 ghost use Rattle.sh_runs.specs.Numbering.{is_numbered};
@@ -19,12 +19,6 @@ struct Watch<'t, 's> {
     steady: bool,
 }
 
-fn both(steady: bool, leaves: bool) -> bool
-    ensures { result ≡ (steady && leaves) }
-{
-    steady && leaves
-}
-
 impl<'t, 's> Visitor for Watch<'t, 's> {
     ghost Kept = { Option spec.Kept };
 
@@ -41,7 +35,7 @@ impl<'t, 's> Visitor for Watch<'t, 's> {
         script: &[u8],
     ) -> Result<(), Infallible> {
         let leaves = command_is_steady(command, self.calls.texts(command.number), script);
-        self.steady = both(self.steady, leaves);
+        self.steady &= leaves;
         Ok(())
     }
 }

@@ -7,7 +7,7 @@ ghost use Rattle.sh_quote.specs.Unquoted as spec;
 
 use crate::elements::{begins_assignment, split_word};
 use crate::patterns::is_pattern;
-use crate::quotations::told;
+use crate::quotations::reported_at;
 use sh_table::{Kind as Meaning, kind_of};
 use sh_tree::{Code, Command, Element, Items, Kind, KnownName, Part, Place, Word};
 use std::alloc::AllocError;
@@ -17,7 +17,7 @@ fn add_part(part: &Part, numbers: bool, places: &mut Vec<Place>) -> Result<(), A
     ensures kept { (b : List ℕ) → OnOk result (places.new.items ≡ places.old.items ++ spec.part_told b numbers part.now) }
     ensures some { (b : List ℕ) → OnErr result (0 < length (spec.part_told b numbers part.now)) }
 {
-    match told(part, numbers) {
+    match reported_at(part, numbers) {
         None => Ok(()),
         Some(at) => add_place(at, places),
     }

@@ -32,18 +32,13 @@ impl<T> Rigged<T> {
     pub fn new(inner: T, most: usize, interrupts: u32, call: u32, trick: Trick) -> Self
         ensures { result.counts ≡ no_counts }
     {
-        let counts = Counts {
-            errors: 0,
-            interruptions: 0,
-            empty: 0,
-        };
         Rigged {
             inner,
             most,
             interrupts,
             call,
             trick,
-            counts,
+            counts: Counts::NONE,
         }
     }
 }

@@ -183,8 +183,8 @@ fn push_definition(
 /// `AllocError` if a growth was refused.
 #[cycle(show)]
 pub fn push_command(alloc: Global, command: &Command, text: &mut String) -> Result<(), AllocError> {
-    let told = format!(in alloc; "{}@{}", command.number, command.at)?;
-    text.push_str(&told)?;
+    let shown = format!(in alloc; "{}@{}", command.number, command.at)?;
+    text.push_str(&shown)?;
     push_kind(alloc, &command.kind, text)?;
     push_redirects(alloc, command.redirects.as_slice(), text)
 }

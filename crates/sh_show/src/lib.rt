@@ -8,7 +8,5 @@ mod redirections;
 mod spans;
 mod words;
 
-pub use arithmetic::push_expr;
-pub use commands::{push_command, push_script};
-pub use redirections::push_redirect;
-pub use words::{push_part, push_parts, push_word};
+pub use commands::push_script;
+pub use words::push_word;

@@ -37,8 +37,8 @@ pub fn push_redirect(
     redirect: &Redirect,
     text: &mut String,
 ) -> Result<(), AllocError> {
-    let told = format!(in alloc; "o{}", redirect.at)?;
-    text.push_str(&told)?;
+    let shown = format!(in alloc; "o{}", redirect.at)?;
+    text.push_str(&shown)?;
     if let Some(number) = redirect.number {
         push_signed(alloc, "/", number, text)?;
     }

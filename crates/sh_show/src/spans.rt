@@ -3,8 +3,8 @@ use std::alloc::{AllocError, Global};
 
 /// A span, `start-end`.
 pub fn push_span(alloc: Global, span: Span, text: &mut String) -> Result<(), AllocError> {
-    let told = format!(in alloc; "{}-{}", span.start, span.end)?;
-    text.push_str(&told)
+    let shown = format!(in alloc; "{}-{}", span.start, span.end)?;
+    text.push_str(&shown)
 }
 
 /// The sign of a thing, and its span.

@@ -27,8 +27,8 @@ fn push_subject(alloc: Global, subject: Subject, text: &mut String) -> Result<()
     match subject {
         Subject::Name(span) => push_span(alloc, span, text),
         Subject::Positional(number, span) => {
-            let told = format!(in alloc; "{number}")?;
-            text.push_str(&told)?;
+            let shown = format!(in alloc; "{number}")?;
+            text.push_str(&shown)?;
             push_signed(alloc, ":", span, text)
         }
         Subject::Special(special, span) => {

@@ -1,10 +1,7 @@
-use Rattle.std.proofs.Common.{ap, ◌∙◌}
-use Rattle.sh_quote.specs.Commands.{kept_of}
 use Rattle.sh_quote.proofs.WholeLemmas.{watched}
 use Rattle.sh_quote.proofs.steady.WatchVisitor.visit.Goals as goal
 
 pub returns : goal.returns
 returns c = λ k q.
-    ap (kept_of c.args.script.now c.args.self.now.calls.now) c.both-self.ensures
-    ∙ watched c.args.script.now c.args.self.now.calls.now c.args.self.now.steady c.command_is_steady-leaves.result c.args.command.now c.args._around c.texts.result.now
+    watched c.args.script.now c.args.self.now.calls.now c.args.self.now.steady c.command_is_steady-leaves.result c.args.command.now c.args._around c.texts.result.now
     c.texts.ensures c.command_is_steady-leaves.ensures k q

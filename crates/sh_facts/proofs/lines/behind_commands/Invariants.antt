@@ -1,8 +1,0 @@
-use Rattle.std.proofs.Common.{◌≡◌, ◌+◌, ◌-◌}
-use Rattle.sh_facts.specs.Fields.{left_of}
-use Rattle.sh_domain.specs.Forms.{read_lines, command_in}
-use Rattle.sh_facts.proofs.lines.behind_commands.Given as goal
-
--- what is after the lines that are left is what is after all
-abbrev pub invariant-loop-done : goal.invariant-loop-done
-invariant-loop-done l = left_of (read_lines command_in 3 1 l.count l.text) ≡ left_of (read_lines command_in (3 + l.done) (l.done + 1) (l.count - l.done) l.left)
