@@ -14,7 +14,7 @@ ghost use Rattle.sh_drafts.specs.declared.place.Place as places;
 
 use crate::first::unreached;
 use crate::kept::function_part;
-use crate::lower::{count, lower_known};
+use crate::lower::{add_drops, lower_known};
 use crate::place::{Part, Place};
 use crate::sight::Sight;
 use crate::subject::Subject;
@@ -133,7 +133,7 @@ fn state_drops(
     };
     let vars = numbers_in(&subject.compact.rows, entry.drops.vars);
     let functions = numbers_in(&subject.compact.rows, entry.drops.functions);
-    count(
+    add_drops(
         subject.names,
         subject.writable,
         certificate,

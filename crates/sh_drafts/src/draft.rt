@@ -45,6 +45,9 @@ pub struct Draft {
     pub waiting: Waiting,
 }
 
+// A script counts as one of so many commands more.
+const MORE: u64 = 8;
+
 // How often counts fall for each command until they are solved apart.
 const FALLS: u64 = 4;
 
@@ -59,6 +62,15 @@ const ROUNDS: u32 = 2;
 
 // How many rows more than twice those that claims have there may be for each command.
 const ROWS: usize = 2;
+
+// How many commands more count there.
+const MORE_FOR_ROWS: usize = 32;
+
+// Of so many looks, one may be at a body that a call has gone over again.
+const AGAIN: u64 = 4;
+
+// If there were more, a call goes over a body again if fewer passes over it began in this course.
+const PASSES: u32 = 2;
 
 // How often that is doubled at most.
 const MOST_DOUBLED: u32 = 20;
@@ -86,7 +98,7 @@ fn has_jobs(script: &[u8]) -> bool {
 
 // So often more for each of so many commands.
 fn after(so_far: u64, commands: usize, times: u64) -> u64 {
-    let more = (commands as u64).saturating_add(8).saturating_mul(times);
+    let more = (commands as u64).saturating_add(MORE).saturating_mul(times);
     so_far.saturating_add(more)
 }
 
@@ -118,7 +130,7 @@ pub fn tires_after(looks: u64, commands: usize) -> u64 {
 /// How many rows there may be of a certificate of so many commands until those that no claim has
 /// any more are dropped, if there are so many: a hint.
 pub fn room_after(rows: usize, commands: usize) -> usize {
-    let more = commands.saturating_add(32).saturating_mul(ROWS);
+    let more = commands.saturating_add(MORE_FOR_ROWS).saturating_mul(ROWS);
     rows.saturating_mul(2).saturating_add(more)
 }
 
@@ -231,7 +243,7 @@ impl Draft {
     /// one with many callers is not gone over for each.
     pub fn goes_again(&self, definition: u32) -> bool {
         let units = &self.waiting.units;
-        let is_rare = self.again <= self.looks / 4 || units.passes(definition) < 2;
+        let is_rare = self.again <= self.looks / AGAIN || units.passes(definition) < PASSES;
         is_rare && units.waits_again(definition)
     }
 }

@@ -209,7 +209,7 @@ fn keep_drops(
 /// # Errors
 ///
 /// If a growth was refused.
-pub fn count(
+pub fn add_drops(
     names: &Names,
     writable: &Writable,
     certificate: &mut Certificate,

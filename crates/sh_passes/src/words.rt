@@ -22,7 +22,9 @@ use sh_sweeps::known::{
     behind_action, behind_assigned, behind_operands, behind_word, operand_of, started_in,
 };
 use sh_sweeps::nowhere::before_if;
-use sh_sweeps::texts::{goes_by_one, have_documents, hold_documents, may_wait_in, place_of_text};
+use sh_sweeps::texts::{
+    elements_have_documents, goes_by_one, may_wait_in, place_of_text, redirects_have_documents,
+};
 use sh_sweeps::waits::does_list_wait;
 use sh_tree::{
     Action, Binary, Element, Expr, Items, ParameterOperator, Part, Redirect, Script,
@@ -50,7 +52,7 @@ pub fn sweep_elements(
 {
     let behind = behind_operands(subject, &draft.certificate, elements, known);
     let mut inside = *known;
-    let has_documents = hold_documents(elements);
+    let has_documents = elements_have_documents(elements);
     let mut place = 0;
     while place < elements.len() {
         let by_one = goes_by_one(has_documents, &inside, &behind);
@@ -146,7 +148,7 @@ fn sweep_redirects(
     ensures swept { IfOk result (λ unit. IsSwept subject.now draft.old.certificate draft.new.certificate draft.new.probe.count) }
 {
     let mut inside = *known;
-    let has_documents = have_documents(redirects);
+    let has_documents = redirects_have_documents(redirects);
     let mut place = 0;
     while place < redirects.len() {
         let by_one = goes_by_one(has_documents, &inside, &inside);

@@ -10,7 +10,7 @@ ghost use Rattle.sh_drafts.specs.Writable.{IsWritten, sets_in};
 use crate::gather::Gather;
 use sh_domain::{Certificate, Names};
 use sh_drafts::Writable;
-use sh_drafts::lower::{count, lower_known};
+use sh_drafts::lower::{add_drops, lower_known};
 use sh_rows::BitRow;
 use std::alloc::AllocError;
 
@@ -47,7 +47,7 @@ pub fn lower_gathered(
         target.place,
         &gather.known,
     )?;
-    let counted = count(
+    let has_dropped = add_drops(
         names,
         writable,
         certificate,
@@ -56,5 +56,5 @@ pub fn lower_gathered(
         &gather.vars,
         &gather.functions,
     )?;
-    Ok(lowered || counted)
+    Ok(lowered || has_dropped)
 }

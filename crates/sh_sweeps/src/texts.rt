@@ -92,13 +92,13 @@ fn is_document(redirect: &Redirect) -> bool {
     matches!(redirect.target, Target::Here(_))
 }
 
-/// Whether the words of redirections are elsewhere in the script.
-pub fn have_documents(redirects: &[Redirect]) -> bool {
+/// Whether one of the redirections has a here-document, whose body is elsewhere in the script.
+pub fn redirects_have_documents(redirects: &[Redirect]) -> bool {
     redirects.iter().any(|redirect| is_document(redirect))
 }
 
-/// Whether those of elements are.
-pub fn hold_documents(elements: &[Element]) -> bool {
+/// Whether a redirection among the elements has a here-document.
+pub fn elements_have_documents(elements: &[Element]) -> bool {
     elements.iter().any(|element| match element {
         Element::Redirection(redirect) => is_document(redirect),
         _ => false,

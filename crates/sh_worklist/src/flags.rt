@@ -1,5 +1,5 @@
 //! Sets of numbers, as bits.
-ghost use Rattle.std.specs.Prelude.{◌≡◌, ℕ, ◌+◌, ◌*◌, ◌/◌, ◌<◌, ◌≤◌, ◌==◌, ◌&&◌, ◌||◌, true, false, not, nat_lt, length, replicate, IfOk, MatchOption};
+ghost use Rattle.std.specs.Prelude.{◌≡◌, ℕ, ◌+◌, ◌*◌, ◌/◌, ◌<◌, ◌≤◌, ◌==◌, ◌&&◌, ◌||◌, true, false, not, nat_lt, length, IfOk, MatchOption};
 ghost use Rattle.std.specs.Slice.Scan.{HoldsNowhere};
 ghost use Rattle.sh_rows.specs.Numbers.{has_bit};
 ghost use Rattle.sh_worklist.specs.Bits.{IsLast, IsNext, is_bit};
@@ -24,7 +24,7 @@ impl Flags {
         ensures none { IfOk result (λ flags. (k : ℕ) → is_in flags k ≡ false) }
         ensures room { IfOk result (λ flags. count ≤ limit_of flags) }
     {
-        let words = zeros(alloc, count / 64 + 1)?;
+        let words = vec![in alloc; 0u64; count / 64 + 1]?;
         Ok(Flags { words })
     }
 
@@ -105,12 +105,6 @@ impl Flags {
         }
         None
     }
-}
-
-fn zeros(alloc: Global, length: usize) -> Result<Vec<u64>, AllocError>
-    ensures { IfOk result (λ words. words.items ≡ replicate length 0) }
-{
-    vec![in alloc; 0u64; length]
 }
 
 fn set_all(words: &mut [u64])

@@ -2,12 +2,9 @@
 
 use crate::commands::Commands;
 use crate::flags::Flags;
-use crate::units::Unit;
+use crate::units::{OUTSIDE, Unit};
 use sh_table::CallTable;
 use std::alloc::{AllocError, Global};
-
-// What is outside of all functions.
-const OUTSIDE: u32 = 0;
 
 // An edge between functions: one calls the other.
 #[derive(Clone, Copy, Debug, PartialEq, Eq)]
@@ -16,9 +13,10 @@ struct Edge {
     to: u32,
 }
 
-// To begin with a function, or to end with one after those to which its edges lead.
+/// A step of a walk depth first over numbers: to begin with one, or to end with one after those
+/// that come before it.
 #[derive(Clone, Copy, Debug, PartialEq, Eq)]
-enum Step {
+pub enum Step {
     Begin(u32),
     End(u32),
 }

@@ -8,7 +8,7 @@ ghost use Rattle.sh_worklist.specs.Units as units;
 
 use crate::commands::Commands;
 use crate::flags::Flags;
-use crate::order::in_order;
+use crate::order::{Step, in_order};
 use crate::ordered::{Direction, Ordered, Reason};
 use sh_table::CallTable;
 use std::alloc::{AllocError, Global};
@@ -21,19 +21,14 @@ pub enum Unit {
     Body(u32),
 }
 
+/// The number of the commands outside all definitions, which is that of no command.
+pub const OUTSIDE: u32 = 0;
+
 // How many courses there are.
 const COURSES: usize = 4;
 
 // To put so many commands in order takes less time than to go over one body.
 const COMMANDS: usize = 8;
-
-// What is left of the first pass: to begin with a body, or to end with one after those that it
-// calls.
-#[derive(Clone, Copy, Debug, PartialEq, Eq)]
-enum Step {
-    Begin(u32),
-    End(u32),
-}
 
 // In which direction bodies that wait are taken, for which reason, and in which order.
 #[derive(Clone, Copy, Debug, PartialEq, Eq)]
@@ -82,11 +77,11 @@ impl Passes {
 /// those in which a command waits, until there are none.
 #[derive(Drop)]
 pub struct Units {
-    // By the numbers of definitions, and by 0 the commands outside.
+    // By the numbers of definitions, and by `OUTSIDE` the commands outside.
     waiting: Flags,
     // The definitions whose bodies no pass has begun.
     unseen: Flags,
-    // The last is next.
+    // What is left of the first pass. The last is next.
     steps: Vec<Step>,
     by_calls: Ordered,
     by_callers: Ordered,
@@ -117,7 +112,7 @@ impl Units {
     {
         let count = table.rows().len() + 1;
         let mut waiting = Flags::none(alloc, count)?;
-        waiting.add(0);
+        waiting.add(OUTSIDE);
         Ok(Units {
             waiting,
             unseen: definitions(alloc, table, count)?,
@@ -146,7 +141,7 @@ impl Units {
         ensures unseen { self.new.unseen ≡ self.old.unseen }
     {
         add_each(&mut self.waiting, self.by_calls.bodies.as_slice());
-        self.waiting.add(0);
+        self.waiting.add(OUTSIDE);
         self.by_calls.wait_all();
         self.by_callers.wait_all();
     }
@@ -163,7 +158,7 @@ impl Units {
     {
         match unit {
             Unit::Outside => {
-                self.waiting.add(0);
+                self.waiting.add(OUTSIDE);
                 Ok(())
             }
             Unit::Body(definition) => self.wait_for(definition, Reason::Inside),
@@ -442,7 +437,7 @@ impl Units {
         ensures none { IfOk result (λ unit. unit ≡ None → does_wait self.old 0 ≡ false) }
         ensures seen { IfOk result (λ unit. unit ≡ None → HoldsNowhere (units.is_unseen self.old) 0 (2 ^ 32)) }
     {
-        if self.by_calls.bodies.is_empty() && self.waiting.take(0) {
+        if self.by_calls.bodies.is_empty() && self.waiting.take(OUTSIDE) {
             return Ok(Some(Unit::Outside));
         }
         if let Some(definition) = self.next_found()? {
@@ -452,7 +447,7 @@ impl Units {
         if let Some(definition) = self.next_in_order() {
             return Ok(Some(Unit::Body(definition)));
         }
-        if self.waiting.take(0) {
+        if self.waiting.take(OUTSIDE) {
             return Ok(Some(Unit::Outside));
         }
         Ok(self.unseen.next(0, u32::MAX).map(Unit::Body))

@@ -9,8 +9,8 @@ use Rattle.sh_drafts.proofs.BegunLemmas.{drops_more, drops_none, drops_within, s
 use Rattle.sh_drafts.proofs.ReadyLemmas.{numbered}
 use Rattle.sh_drafts.proofs.begun.state_drops.Goals as goal
 
-pub count-requires-clause-fine : goal.count-requires-clause-fine
-count-requires-clause-fine c = c.requires.working.2.drops c.args.index
+pub add_drops-requires-clause-fine : goal.add_drops-requires-clause-fine
+add_drops-requires-clause-fine c = c.requires.working.2.drops c.args.index
 
 pub returns-in_default-clause-begun : goal.returns-in_default-clause-begun
 returns-in_default-clause-begun c = λ done b.
@@ -31,9 +31,9 @@ returns-clause-begun c = λ done b.
     slice_get_read c.deref.result.now _ c.args.index c.in-Some.entry.now refl c.in-Some.ensures.lookup.3.0 c.in-Some.ensures.lookup.1 in
     let is : drops_stated k c.args.index ≡ Some sets =
     ap (option_map (λ (e : FunctionEntry). sets_of k.rows e.drops)) (subst (λ (xs : List FunctionEntry). slice_get xs c.args.index ≡ Some c.in-Some.entry.now) c.deref.ensures.value there) in
-    drops_more k done c.args.index c.args.certificate.now c.count.new.certificate sets may c.in_ok-count.field-0 is
-    (subst (λ z. IsCounted c.args.certificate.now c.count.new.certificate c.args.index z c.in_ok-count.field-0) same (c.in_ok-count.ensures.counted w.0 w.1 w.2))
-    (λ e. subst (λ z. DropsStay c.args.certificate.now c.args.index z may) same (c.in_ok-count.ensures.idle e))
+    drops_more k done c.args.index c.args.certificate.now c.add_drops.new.certificate sets may c.in_ok-add_drops.field-0 is
+    (subst (λ z. IsCounted c.args.certificate.now c.add_drops.new.certificate c.args.index z c.in_ok-add_drops.field-0) same (c.in_ok-add_drops.ensures.counted w.0 w.1 w.2))
+    (λ e. subst (λ z. DropsStay c.args.certificate.now c.args.index z may) same (c.in_ok-add_drops.ensures.idle e))
     (drops_within s.names.now h k c.args.index sets may c.requires.stateable is
     (subst (λ z. AreBelow (length s.names.now) z) same (record { vars = λ j e. subst (λ n. j < n) c.requires.sized (c.numbers_in-vars.ensures.below j e); functions = λ j e. subst (λ n. j < n) c.requires.sized (c.numbers_in-functions.ensures.below j e) })) s.all_writable)
     b

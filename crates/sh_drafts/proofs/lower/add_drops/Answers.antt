@@ -2,7 +2,7 @@ use Rattle.std.proofs.Common.{◌≡◌, None, rules, refl, sym, ◌∙◌, subs
 use Rattle.sh_drafts.specs.Working.{AreBelow, AreWithin, Sets, joined}
 use Rattle.sh_drafts.specs.Writable.{sets_in}
 use Rattle.sh_drafts.proofs.LowerLemmas.{rows_few, dropped_is, nothing_dropped, union_within, drops_there, union_below, union_has_both, union_kept, fine_drops, is_counted, counting_works}
-use Rattle.sh_drafts.proofs.lower.count.Goals as goal
+use Rattle.sh_drafts.proofs.lower.add_drops.Goals as goal
 
 pub keep_drops-requires-clause-below : goal.keep_drops-requires-clause-below
 keep_drops-requires-clause-below c =
