@@ -87,18 +87,18 @@ module _ (b : List ℕ) (d : Declared) (t : Script) (names : List Text) (loops :
       ∙ ap (λ k. of_fit k (judged (filled_to filled h.sheet))) (given_fit_is b d t names loops read others a.numbered.0 ls l h.sheet ∙ h.misfit)
 
   of_many : Refuses b d (RefusesText b d text) TooMany → answer ≡ Tells TooMany
-  of_many (inl p) = absurd (p.1 t read.reading.1)
+  of_many (inl p) = absurd (p.refused.1 t read.reading.1)
   of_many (inr q) =
       let e : q.0 ≡ t = tree_is b d t names loops read q.0 q.1 in
       unnumbered (subst (λ u. first_refused (script_of b u) ≡ None) e q.2) (subst (λ u. HasTooMany b u d) e q.3)
 
   pub of_refusal : (x : Refusal) → Refuses b d (RefusesText b d text) x → is_refusal x ≡ true → answer ≡ Tells x
   unfolding is_refusal
-  of_refusal TooLong h k = let l = read.reading.0.0 in absurd (omega arith)
-  of_refusal (NulByte at) h k = absurd (true≢false (sym (ap is_some (sym read.reading.0.1 ∙ h.1))))
-  of_refusal (Syntax f at) h k = absurd (h.2 t (MAX_NESTING, read.reading.1.0, read.reading.1.1))
-  of_refusal (LeftOut f at) h k = absurd (h.2 t (MAX_NESTING, read.reading.1.0, read.reading.1.1))
-  of_refusal (TooDeep at) h k = absurd (h.2 t read.reading.1)
+  of_refusal TooLong h k = let l = read.reading.0.0 in let m = h.refused in absurd (omega arith)
+  of_refusal (NulByte at) h k = absurd (true≢false (sym (ap is_some (sym read.reading.0.1 ∙ h.refused.1))))
+  of_refusal (Syntax f at) h k = absurd (h.refused.2 t (MAX_NESTING, read.reading.1.0, read.reading.1.1))
+  of_refusal (LeftOut f at) h k = absurd (h.refused.2 t (MAX_NESTING, read.reading.1.0, read.reading.1.1))
+  of_refusal (TooDeep at) h k = absurd (h.refused.2 t read.reading.1)
   of_refusal TooMany h k = of_many h
   of_refusal Memory h k = absurd (true≢false (sym k))
   of_refusal (Profile r at) h k = let e : h.0 ≡ t = tree_is b d t names loops read h.0 h.1 in refused r at (subst (λ u. Admits (script_of b u) (Err (Profile r at))) e h.2)

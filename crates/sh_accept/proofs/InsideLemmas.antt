@@ -27,10 +27,10 @@ profile_inside b t r at reads h =
 
 inside : (b : List ℕ) (d : Declared) (P : Refusal → Type 0) (r : Refusal) → Refuses b d P r → IsInside b r
 inside b d P TooLong h = tt
-inside b d P (NulByte at) h = (position-Some (λ c. c == 0) b at 0 h.1).0
-inside b d P (Syntax f at) h = h.1
-inside b d P (LeftOut f at) h = h.1
-inside b d P (TooDeep at) h = h.1
+inside b d P (NulByte at) h = (position-Some (λ c. c == 0) b at 0 h.refused.1).0
+inside b d P (Syntax f at) h = h.refused.1
+inside b d P (LeftOut f at) h = h.refused.1
+inside b d P (TooDeep at) h = h.refused.1
 inside b d P TooMany h = tt
 inside b d P Memory h = tt
 inside b d P (Profile r at) h = profile_inside b h.0 r at (MAX_NESTING, h.1.1.0, h.1.1.1) h.2

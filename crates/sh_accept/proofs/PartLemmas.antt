@@ -17,22 +17,22 @@ use Rattle.sh_domain.proofs.EachLemmas.{none_both}
 use Rattle.sh_answers.specs.declared.verdict.Verdict.TheVariants.{Pass}
 use Rattle.sh_domain.specs.Admitted.{IsAdmitted, KeepsRules, functions_in}
 use Rattle.sh_accept.specs.Accepted.{Gives}
-use Rattle.sh_accept.specs.Answers.{Checks, IsCertified, places}
+use Rattle.sh_accept.specs.Answers.{Checks, IsCertified, IsUnread, places}
 use Rattle.sh_accept.specs.Parts.{PartsAlwaysAnswer}
 use Rattle.sh_accept.proofs.FilledLemmas.{claims_fit}
 
 module _ (b : List ℕ) (d : Declared) (text : Text) where
-  unread : (e : Refusal) → Parses b (Err e) → Checks b d text (Err e)
+  unread : (e : Refusal) → IsUnread b e → Checks b d text (Err e)
   unread TooLong h = h
   unread (NulByte at) h = h
   unread (Syntax f at) h = h
   unread (LeftOut f at) h = h
   unread (TooDeep at) h = h
   unread TooMany h = inl h
-  unread Memory h = h
-  unread (Profile r at) h = absurd h
-  unread (CertSyntax n) h = absurd h
-  unread CertShape h = absurd h
+  unread Memory h = h.refused
+  unread (Profile r at) h = absurd h.refused
+  unread (CertSyntax n) h = absurd h.refused
+  unread CertShape h = absurd h.refused
 
   refused : (t : Script) (e : Refusal) → Parses b (Ok t) → Admits (script_of b t) (Err e) → Checks b d text (Err e)
   refused t TooLong p h = absurd h

@@ -29,5 +29,5 @@ module _ (b : List ℕ) (t : Script) (reading : Parses b (Ok t)) where
   pub prints : (x y : Result (Vec ℕ Global) Refusal) → Prints b x → Prints b y → (x ≡ Err Memory → ⊥) → (y ≡ Err Memory → ⊥)
       → (shown_text b x ≡ shown_text b y) × (shown_status x ≡ shown_status y)
   prints (Ok v) (Ok w) h k g l = (h.2 ∙ ap (canon b) (tree_is h.0 h.1 ∙ sym (tree_is k.0 k.1)) ∙ sym k.2, refl)
-  prints (Ok v) (Err f) h k g l = absurd (unrefused f k (λ is. l (ap Err is)))
-  prints (Err e) y h k g l = absurd (unrefused e h (λ is. g (ap Err is)))
+  prints (Ok v) (Err f) h k g l = absurd (unrefused f k.refused (λ is. l (ap Err is)))
+  prints (Err e) y h k g l = absurd (unrefused e h.refused (λ is. g (ap Err is)))

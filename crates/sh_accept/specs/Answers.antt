@@ -10,6 +10,7 @@ use Rattle.sh_tree.specs.declared.refusal.Refusal.TheVariants.{TooLong, NulByte,
 use Rattle.sh_tree.specs.declared.tree.Script.{Script}
 use Rattle.sh_tree.specs.standard.program.Syntax.{Text}
 use Rattle.sh_tree.specs.standard.program.Trees.{script_of}
+use Rattle.sh_grammar.specs.Faults.{TellsLimit, TellsMisplaced, TellsPending}
 use Rattle.sh_table.specs.Admits.{Admits}
 use Rattle.sh_runs.specs.Profile.{first_refused}
 use Rattle.sh_domain.specs.CompactReading.{ReadsGiven}
@@ -31,15 +32,23 @@ use Rattle.sh_domain.specs.Admitted.{IsAdmitted, IsGreatest, KeepsRules, claims_
 use Rattle.sh_print.specs.Layout.{canon}
 use Rattle.sh_accept.specs.Accepted.{IsAccepted, IsAcceptedText, Claims}
 
+-- The text has no reading within the limits, and is refused as its reader refuses it: at the token
+-- that has no place, at the here-document that is open, or by a limit that each reading exceeds.
+pub record IsUnread (b : List ℕ) (r : Refusal) : Type 0 where
+  pub refused : Parses b (Err r)
+  pub limit : TellsLimit b (Err r)
+  pub misplaced : IsText b → TellsMisplaced b (Err r)
+  pub pending : IsText b → TellsPending b (Err r)
+
 -- Refusals, in the order script, profile, names, certificate: of the latter P says which come
 
 abbrev pub Refuses : List ℕ → Declared → (Refusal → Type 0) → Refusal → Type 0
-Refuses b d P TooLong = Parses b (Err TooLong)
-Refuses b d P (NulByte at) = Parses b (Err (NulByte at))
-Refuses b d P (Syntax f at) = Parses b (Err (Syntax f at))
-Refuses b d P (LeftOut f at) = Parses b (Err (LeftOut f at))
-Refuses b d P (TooDeep at) = Parses b (Err (TooDeep at))
-Refuses b d P TooMany = Parses b (Err TooMany) ⊎ ((t : Script) × Parses b (Ok t) × (first_refused (script_of b t) ≡ None) × Numbers b t d (Err TooMany))
+Refuses b d P TooLong = IsUnread b TooLong
+Refuses b d P (NulByte at) = IsUnread b (NulByte at)
+Refuses b d P (Syntax f at) = IsUnread b (Syntax f at)
+Refuses b d P (LeftOut f at) = IsUnread b (LeftOut f at)
+Refuses b d P (TooDeep at) = IsUnread b (TooDeep at)
+Refuses b d P TooMany = IsUnread b TooMany ⊎ ((t : Script) × Parses b (Ok t) × (first_refused (script_of b t) ≡ None) × Numbers b t d (Err TooMany))
 Refuses b d P Memory = IsText b
 Refuses b d P (Profile r at) = (t : Script) × Parses b (Ok t) × Admits (script_of b t) (Err (Profile r at))
 Refuses b d P (CertSyntax n) = P (CertSyntax n)
@@ -143,4 +152,4 @@ Certifies full b d (Err r) = Refuses b d (RefusesLong full b d) r
 -- text
 abbrev pub Prints : List ℕ → Result (Vec ℕ Global) Refusal → Type 0
 Prints b (Ok v) = (t : Script) × Parses b (Ok t) × (v.items ≡ canon b t)
-Prints b (Err r) = Parses b (Err r)
+Prints b (Err r) = IsUnread b r

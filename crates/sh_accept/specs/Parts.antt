@@ -19,13 +19,13 @@ use Rattle.sh_answers.specs.declared.verdict.Report.{Report}
 use Rattle.sh_answers.specs.declared.verdict.Verdict.TheVariants.{Pass, Fail, Forged}
 use Rattle.sh_domain.specs.Admitted.{IsAdmitted, KeepsRules, claims_in, functions_in}
 use Rattle.sh_accept.specs.Accepted.{Gives}
-use Rattle.sh_accept.specs.Answers.{Checks, IsCertified, places}
+use Rattle.sh_accept.specs.Answers.{Checks, IsCertified, IsUnread, places}
 
 -- The refusal of each part is that of the check. What is read of the text is a certificate's. Of
 -- that certificate: without a fault and a place the check passes; with a fault it reports the least
 -- one; otherwise it reports the findings.
 pub record PartsAnswer (b : List ℕ) (d : Declared) (text : Text) : Type 0 where
-  pub unread : (e : Refusal) → Parses b (Err e) → Checks b d text (Err e)
+  pub unread : (e : Refusal) → IsUnread b e → Checks b d text (Err e)
   pub refused : (t : Script) (e : Refusal) → Parses b (Ok t) → Admits (script_of b t) (Err e) → Checks b d text (Err e)
   pub unnumbered : (t : Script) (e : Refusal) → Parses b (Ok t) → first_refused (script_of b t) ≡ None → Numbers b t d (Err e) → Checks b d text (Err e)
   pub uncertified : (t : Script) (names : List Text) (e : Refusal) → IsAdmitted b d t names → ReadsGiven text t (length (functions_in b t)) names (Err e) → Checks b d text (Err e)

@@ -1,32 +1,37 @@
 -- What the parts of a script's preparation refuse, the script is refused for.
 use Rattle.std.proofs.Common.{◌≡◌, ℕ, ◌≤◌, inl, inr, List, length, None, Ok, Err}
-use Rattle.sh_tree.specs.Answers.{Parses}
+use Rattle.sh_tree.specs.Answers.{IsText, Parses}
 use Rattle.sh_tree.specs.declared.limits.TheConstants.{MAX_COMMANDS}
 use Rattle.sh_tree.specs.declared.refusal.Refusal.{Refusal}
 use Rattle.sh_tree.specs.declared.refusal.Refusal.TheVariants.{TooLong, NulByte, Syntax, LeftOut, TooDeep, TooMany, Memory, Profile, CertSyntax, CertShape}
 use Rattle.sh_tree.specs.declared.tree.Script.{Script}
 use Rattle.sh_tree.specs.standard.program.Trees.{script_of}
+use Rattle.sh_grammar.specs.Faults.{TellsLimit, TellsMisplaced, TellsPending}
 use Rattle.sh_table.specs.Admits.{Admits}
 use Rattle.sh_runs.specs.Calls.{table_of}
 use Rattle.sh_runs.specs.Profile.{first_refused}
 use Rattle.sh_domain.specs.Facts.{Declared}
 use Rattle.sh_domain.specs.Names.{Numbers}
 use Rattle.sh_domain.proofs.TotalLemmas.{read_has_few_commands}
-use Rattle.sh_accept.specs.Answers.{Refuses, NoRefusal}
+use Rattle.sh_accept.specs.Answers.{IsUnread, Refuses, NoRefusal}
+
+-- what its reader reports of a text
+pub reported : (b : List ℕ) (e : Refusal) → Parses b (Err e) → TellsLimit b (Err e) → (IsText b → TellsMisplaced b (Err e)) → (IsText b → TellsPending b (Err e)) → IsUnread b e
+reported b e p l m w = record { refused = p; limit = l; misplaced = m; pending = w }
 
 module _ (b : List ℕ) (d : Declared) where
   -- a text that is not read
-  pub unread : (P : Refusal → Type 0) (e : Refusal) → Parses b (Err e) → Refuses b d P e
+  pub unread : (P : Refusal → Type 0) (e : Refusal) → IsUnread b e → Refuses b d P e
   unread P TooLong h = h
   unread P (NulByte at) h = h
   unread P (Syntax f at) h = h
   unread P (LeftOut f at) h = h
   unread P (TooDeep at) h = h
   unread P TooMany h = inl h
-  unread P Memory h = h
-  unread P (Profile r at) h = absurd h
-  unread P (CertSyntax n) h = absurd h
-  unread P CertShape h = absurd h
+  unread P Memory h = h.refused
+  unread P (Profile r at) h = absurd h.refused
+  unread P (CertSyntax n) h = absurd h.refused
+  unread P CertShape h = absurd h.refused
 
   -- a script whose table is refused: out of memory
   pub untabled : (P : Refusal → Type 0) (t : Script) (e : Refusal) → Parses b (Ok t)

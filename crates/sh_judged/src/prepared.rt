@@ -26,7 +26,7 @@ pub struct Prepared<'s> {
 ///
 /// The refusal of the text, of its first command that the profile refuses, or of its names, in that
 /// order. `Memory` if a growth was refused.
-#[tactic(auto, using(crate::proofs::RefusalLemmas::unread))]
+#[tactic(auto, using(crate::proofs::RefusalLemmas::reported, crate::proofs::RefusalLemmas::unread))]
 pub fn prepare<'s>(
     alloc: Global,
     script: &'s [u8],

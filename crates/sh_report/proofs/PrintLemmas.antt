@@ -8,4 +8,4 @@ use Rattle.sh_accept.specs.Answers.{Prints}
 
 -- out of memory
 pub exhausted : (b : List ℕ) (t : Script) (e : Refusal) → Parses b (Ok t) → e ≡ Memory → Prints b (Err e)
-exhausted b t e p h = subst (λ x. Prints b (Err x)) (sym h) p.0
+exhausted b t e p h = subst (λ x. Prints b (Err x)) (sym h) (record { refused = p.0; limit = tt; misplaced = λ _ _ _ _ _ _. tt; pending = λ _ _ _ _ _ _ _. tt })

@@ -1,5 +1,6 @@
 //! The limits of what is read.
-ghost use Rattle.std.specs.Prelude.{◌≡◌};
+ghost use Rattle.std.specs.Prelude.{◌≡◌, ◌∷◌, [], codes};
+ghost use Rattle.sh_domain.specs.Names.{first_names};
 
 use sh_domain::MAX_CERTIFICATE;
 use sh_tree::{MAX_COMMANDS, MAX_NAMES, MAX_NESTING, MAX_SCRIPT};
@@ -12,5 +13,6 @@ pub fn limits()
     ensures nesting { MAX_NESTING ≡ 64 }
     ensures commands { MAX_COMMANDS ≡ 65535 }
     ensures names { MAX_NAMES ≡ 4096 }
+    ensures first { first_names ≡ codes "IFS" ∷ codes "OPTIND" ∷ codes "PPID" ∷ codes "OPTARG" ∷ codes "!" ∷ [] }
     ensures certificate { MAX_CERTIFICATE ≡ 67108864 }
 {}

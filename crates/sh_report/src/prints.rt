@@ -11,7 +11,7 @@ use std::alloc::Global;
 /// # Errors
 ///
 /// The refusal of the text; `Memory` if a growth was refused.
-#[tactic(auto, using(crate::proofs::PrintLemmas::exhausted))]
+#[tactic(auto, using(crate::proofs::PrintLemmas::exhausted, sh_judged::proofs::RefusalLemmas::reported))]
 pub fn canonical_text(alloc: Global, script: &[u8]) -> Result<Vec<u8>, Refusal>
     ensures { Prints script.now result }
 {

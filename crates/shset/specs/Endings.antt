@@ -86,3 +86,11 @@ EndsBy (Some (Output, text)) given out out_after error error_after status =
 -- how the program ends, by what is known of its streams before and after
 abbrev pub Ends : Ending → (out out_after error error_after : Seen) → ℕ → Type 0
 Ends e out out_after error error_after status = EndsBy (message_of e) e.status out out_after error error_after status
+
+-- how the program ends, if nothing is known of its streams
+pub record EndsUnseen (e : Ending) (status : ℕ) : Type 0 where
+  pub out : Seen
+  pub out_after : Seen
+  pub error : Seen
+  pub error_after : Seen
+  pub ends : Ends e out out_after error error_after status

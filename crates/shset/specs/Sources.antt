@@ -28,6 +28,15 @@ abbrev pub IsSureIfNamed : Type 0 → (List ℕ → Type 0) → Option Source �
 IsSureIfNamed input file None = ⊤
 IsSureIfNamed input file (Some s) = IsSure input file s
 
+-- what is named is a file that cannot be opened
+abbrev pub IsLacking : (List ℕ → Type 0) → Source → Type 0
+IsLacking file Input = ⊥
+IsLacking file (File name) = file name.now
+
+abbrev pub IsLackingIfNamed : (List ℕ → Type 0) → Option Source → Type 0
+IsLackingIfNamed file None = ⊥
+IsLackingIfNamed file (Some s) = IsLacking file s
+
 -- the text of an answer to these bytes was written, and this is its status
 abbrev pub Answers : (script certificate : Option (List ℕ)) → Task → (old new : Option (List ℕ)) → ℕ → Type 0
 Answers script certificate task old new status =

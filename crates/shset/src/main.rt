@@ -2,11 +2,11 @@
 //! command line asks for, and ends with its status.
 #![tactic(auto)]
 
-ghost use Rattle.std.specs.Prelude.{◌≡◌, IfOk, IsErrOf, OnOk};
+ghost use Rattle.std.specs.Prelude.{◌≡◌, Err, IfOk, IsErrOf, OnOk};
 ghost use Rattle.std.specs.Process.{exit_status};
 ghost use Rattle.sh_answers.specs.Ends.{BoreOnly, HasRoom, RefusedBetween};
-ghost use Rattle.shset.specs.Endings.{Ends, Offers, seen};
-ghost use Rattle.shset.specs.Sources.{Answers, Fronts, IsSure, IsSureIfNamed, PromisesSafe, bytes_of, certificate_bytes};
+ghost use Rattle.shset.specs.Endings.{Ends, EndsUnseen, Offers, seen};
+ghost use Rattle.shset.specs.Sources.{Answers, Fronts, IsLacking, IsLackingIfNamed, IsSure, IsSureIfNamed, PromisesSafe, bytes_of, certificate_bytes};
 
 mod ending;
 mod sources;
@@ -51,7 +51,9 @@ fn end<O: Outlet, E: Outlet>(out: &mut O, error: &mut E, ending: Ending<'_>) -> 
 }
 
 /// Ends on the streams of the runtime.
-fn exit(rt: &HostRuntime, ending: Ending<'_>) -> ExitCode {
+fn exit(rt: &HostRuntime, ending: Ending<'_>) -> ExitCode
+    ensures { EndsUnseen ending.entry (exit_status result) }
+{
     let (stdout, stderr) = (rt.stdout(), rt.stderr());
     let mut out = Counted::new(io::writer(&stdout));
     let mut error = Counted::new(io::writer(&stderr));
@@ -97,6 +99,7 @@ fn run_script<R: Sources, S: Feed + Drop, W: Outlet>(
     ensures memory { IsErrOf result Fault.Memory → out.new ≡ out.old }
     ensures read { IsErrOf result Fault.Read → out.new ≡ out.old }
     ensures succeeds { S.cannot_fail script → IsSureIfNamed (R.reads_input sources.now) (R.reads_file sources.now) line.now.cert → IsErrOf result Fault.Read → ⊥ }
+    ensures lacking { IsLackingIfNamed (R.lacks_file sources.now) line.now.cert → result ≡ Err Fault.Read }
     ensures front { IsErrOf result Fault.Write → Fronts (S.remaining script) (certificate_bytes (R.input_bytes sources.now) (R.file_bytes sources.now) line.now.cert) line.now.task (W.contents out.old) (W.contents out.new) }
     ensures write_failed { IsErrOf result Fault.Write → RefusedBetween (W.tally out.old) (W.tally out.new) }
 {
@@ -132,6 +135,8 @@ fn run_line<R: Sources, W: Outlet>(
     ensures read { IsErrOf result Fault.Read → out.new ≡ out.old }
     ensures succeeds { IsSure (R.reads_input sources.now) (R.reads_file sources.now) line.now.script
         → IsSureIfNamed (R.reads_input sources.now) (R.reads_file sources.now) line.now.cert → IsErrOf result Fault.Read → ⊥ }
+    ensures lacking_script { IsLacking (R.lacks_file sources.now) line.now.script → result ≡ Err Fault.Read }
+    ensures lacking_certificate { IsLackingIfNamed (R.lacks_file sources.now) line.now.cert → result ≡ Err Fault.Read }
     ensures front { IsErrOf result Fault.Write → Fronts (bytes_of (R.input_bytes sources.now) (R.file_bytes sources.now) line.now.script)
         (certificate_bytes (R.input_bytes sources.now) (R.file_bytes sources.now) line.now.cert) line.now.task (W.contents out.old) (W.contents out.new) }
     ensures write_failed { IsErrOf result Fault.Write → RefusedBetween (W.tally out.old) (W.tally out.new) }

@@ -1,5 +1,5 @@
 //! What the program reads: standard input, and files by their names.
-ghost use Rattle.std.specs.Prelude.{◌≡◌, ℕ, List, Option, None, Some, [], IfOk, IsOk, ⊤};
+ghost use Rattle.std.specs.Prelude.{◌≡◌, ℕ, List, Option, None, Some, [], IfOk, IsErr, IsOk, ⊤};
 ghost use Rattle.sh_answers.specs.Ends.{HasRoom};
 
 use sh_answers::{Broken, Counted, Counts, Feed, end_answer};
@@ -26,6 +26,9 @@ pub trait Sources {
     // That the file of a name is opened, and no read of it fails.
     ghost reads_file: { Self → List ℕ → Type 0 };
 
+    // That the file of a name cannot be opened.
+    ghost lacks_file: { Self → List ℕ → Type 0 };
+
     /// Standard input.
     fn input(&self) -> Self::Stream
         ensures bytes { Self.Stream.remaining result ≡ input_bytes self.now }
@@ -41,6 +44,7 @@ pub trait Sources {
         ensures bytes { IfOk result (λ file. Self.File.remaining file ≡ file_bytes self.now name.now) }
         ensures room { IfOk result (λ file. HasRoom (Self.File.tally file)) }
         ensures opens { reads_file self.now name.now → IsOk result }
+        ensures lacks { lacks_file self.now name.now → IsErr result }
         ensures reads { IfOk result (λ file. reads_file self.now name.now → Self.File.cannot_fail file) };
 }
 
@@ -56,6 +60,8 @@ impl Sources for HostRuntime {
     ghost reads_input = { λ _. ⊥ };
 
     ghost reads_file = { λ _ _. ⊥ };
+
+    ghost lacks_file = { λ _ _. ⊥ };
 
     fn input(&self) -> Counted<StdinLock<'static>> {
         Counted::new(self.reader())
@@ -78,12 +84,9 @@ impl Nothing {
     pub fn new() -> Nothing
         ensures { HasRoom result.counts }
     {
-        let counts = Counts {
-            errors: 0,
-            interruptions: 0,
-            empty: 0,
-        };
-        Nothing { counts }
+        Nothing {
+            counts: Counts::NONE,
+        }
     }
 }
 
