@@ -48,7 +48,7 @@ empty_within q = refl
 pub names_reach : NamesReach
 names_reach = record {
   within = λ b t d names n.
-      script_walked (λ x c. command_within (is_one_of names) c) (trees.script_of b t)
+      script_walked (λ x c. command_within (is_one_of names) c) (λ e x c k. k) (trees.script_of b t)
       (all_stand b (λ (c : Command). list_all (λ (s : Sight). is_one_of names s.name) (in_command b c)) (command_within (is_one_of names))
       (command_seen b (is_one_of names) (job_reach b t d names n)) (empty_within (is_one_of names)) outside t (seen_reach b t d names n));
 }

@@ -1,9 +1,8 @@
 -- What holds of each command where it is, holds of each as it is entered.
-use Rattle.std.proofs.Common.{◌≡◌, ℕ, suc, ◌==◌, Bool, true, false, not, Option, Some, None, is_some, List, [], ◌∷◌, ◌++◌, length, refl, sym, ◌∙◌, ap, subst, arith, true≢false}
+use Rattle.std.proofs.Common.{◌≡◌, ℕ, suc, ◌+◌, min, Bool, true, false, not, Option, Some, None, is_some, List, [], ◌∷◌, ◌++◌, length, refl, sym, ◌∙◌, ap, subst, arith, true≢false}
 use Rattle.std.specs.List.{list_all}
 use Rattle.std.proofs.lemmas.Bool.{and_parts, and_from}
 use Rattle.std.proofs.lemmas.List.Folds.{list_all-append}
-use Rattle.std.proofs.lemmas.Bool.Decides.{nat_tests}
 use Rattle.sh_tree.specs.standard.program.Syntax as p
 use Rattle.sh_runs.specs.Admitted.{is_admitted}
 use Rattle.sh_runs.specs.Profile.{command_rule, refused_at}
@@ -16,35 +15,29 @@ use Rattle.sh_domain.specs.Inclusions.{Each, surroundings_of, command_formed, is
 use Rattle.sh_domain.specs.Views.{Seen, After, Both, Head, at, in_any_case, gaining_names}
 use Rattle.sh_domain.proofs.EachLemmas.{each_passes, each_weaker}
 use Rattle.sh_runs.proofs.AdmittedLemmas.{is_free, mapped, items_listed}
+use Rattle.sh_runs.proofs.PartLemmas.{commands_freed, freed}
+use Rattle.sh_runs.proofs.RowLemmas.{free_freed}
 
 -- What is round a command, as the profile has it
 
-abbrev surroundings : Bool → Bool → Surroundings
-surroundings loop function = record { loop = loop; function = function }
+abbrev surroundings : ℕ → Bool → Surroundings
+surroundings loops function = record { loops = loops; function = function; beyond = false }
 
-has_loop : (n : ℕ) (ls : List ℕ) → not (length (n ∷ ls) == 0) ≡ true
-has_loop n ls = go (length ls)
-  where
-    go : (k : ℕ) → not (suc k == 0) ≡ true
-    go k = grind (arith, nat_tests)
+one_more : (k : ℕ) → min (min k 255 + 1) 255 ≡ min (suc k) 255
+one_more k = omega arith
 
 loop_same : (n : ℕ) (x : Around) → s.in_loop (surroundings_of x) ≡ surroundings_of (in_loop n x)
-loop_same n x = ap (λ b. surroundings b (is_some x.function)) (sym (has_loop n x.loops))
+loop_same n x = ap (λ k. surroundings k (is_some x.function)) (one_more (length x.loops))
 
 item_same : (x : Around) (background : Bool) → in_item (surroundings_of x) background ≡ surroundings_of (item_around background x)
 unfolding in_item item_around
 item_same x true = refl
 item_same x false = refl
 
-part_same : (x : Around) (cs : p.Commands) → in_part (surroundings_of x) cs ≡ surroundings_of (part_around (is_long cs) x)
-unfolding in_part is_long part_around
-part_same x p.no_commands = refl
-part_same x (p.more_commands c p.no_commands) = refl
-part_same x (p.more_commands c (p.more_commands d cs)) = refl
+-- The walk, of any test of a command and of what is round it, that asks no more in a process of its
+-- own than in a part of a pipeline
 
--- The walk, of any test of a command and of what is round it
-
-module _ (test : Surroundings → p.Command → Bool) where
+module _ (test : Surroundings → p.Command → Bool) (freer : (b : Bool) (x : Surroundings) (c : p.Command) → test x c ≡ true → test (freed b x) c ≡ true) where
   abbrev of_located : Located → Bool
   of_located l = test l.surroundings l.command
 
@@ -71,6 +64,13 @@ module _ (test : Surroundings → p.Command → Bool) where
       let parts = and_parts (list_all of_located ms) (list_all of_located ls) (sym (list_all-append of_located ms ls) ∙ e) in
       joined xs ys (h parts.1) (k parts.0)
 
+  part_holds : (x : Around) (cs : p.Commands) → Holds (commands_located (in_part (surroundings_of x) cs) cs) → Holds (commands_located (surroundings_of (part_around (is_long cs) x)) cs)
+  unfolding in_part is_long part_around
+  part_holds x p.no_commands h = h
+  part_holds x (p.more_commands c p.no_commands) h = h
+  part_holds x (p.more_commands c (p.more_commands d cs)) h =
+      commands_freed of_located freer false (in_part (surroundings_of x) (p.more_commands c (p.more_commands d cs))) (p.more_commands c (p.more_commands d cs)) h
+
   mutual
     unfolding items_located items_entered
 
@@ -88,7 +88,7 @@ module _ (test : Surroundings → p.Command → Bool) where
 
     pipeline_walked : (by : FlowRule) (x : Around) (s : Seen) (t : p.Pipeline) → Holds (pipeline_located (surroundings_of x) t) → HoldsEntered (pipeline_entered by x s t)
     pipeline_walked by x s (p.pipeline negated cs) e =
-        commands_walked _ (part_around (is_long cs) x) _ cs (subst (λ y. Holds (commands_located y cs)) (part_same x cs) e)
+        commands_walked _ (part_around (is_long cs) x) _ cs (part_holds x cs e)
 
     commands_walked : (by : FlowRule) (x : Around) (s : Seen) (t : p.Commands) → Holds (commands_located (surroundings_of x) t) → HoldsEntered (commands_entered by x s t)
     commands_walked by x s p.no_commands e = refl
@@ -210,10 +210,10 @@ pub script_admits : (t : p.Items) → is_admitted t ≡ true → Each Admits (sc
 unfolding free_at
 script_admits t h =
     each_weaker (λ e k. free_admits (surroundings_of e.around) e.command k) (script_entered t)
-    (each_passes (of_entered free_at) (script_entered t) (script_walked free_at t (sym (items_listed outside t) ∙ h)))
+    (each_passes (of_entered free_at free_freed) (script_entered t) (script_walked free_at free_freed t (sym (items_listed outside t) ∙ h)))
 
 -- Form
 
 -- each command is formed, as it is entered
 pub script_formed : (t : p.Items) → is_formed t ≡ true → list_all (λ (e : Entered). command_formed e.command) (script_entered t) ≡ true
-script_formed t h = script_walked (λ x c. command_formed c) t h
+script_formed t h = script_walked (λ x c. command_formed c) (λ b x c k. k) t h

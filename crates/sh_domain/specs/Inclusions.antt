@@ -1,6 +1,6 @@
 -- What rules and demands that hold give at each command of a script: a line for each part.
 -- POSIX.1-2024, XCU 2.9 (shell commands), 2.15 (break, continue, return).
-use Rattle.std.specs.Prelude.{◌≡◌, ℕ, nat_lt, ◌==◌, Bool, true, false, not, ◌&&◌, ◌||◌, if◌then◌else◌, List, [], ◌∷◌, ◌++◌, length, Option, Some, None, is_some}
+use Rattle.std.specs.Prelude.{◌≡◌, ℕ, nat_lt, min, ◌==◌, Bool, true, false, not, ◌&&◌, ◌||◌, if◌then◌else◌, List, [], ◌∷◌, ◌++◌, length, Option, Some, None, is_some}
 use Rattle.std.specs.List.{list_all}
 use Rattle.sh_tree.specs.declared.tree.LoopKind.{LoopKind}
 use Rattle.sh_tree.specs.standard.language.Bytes.{is_name}
@@ -121,9 +121,9 @@ command_formed (p.command n offset kind rs) = kind_formed kind rs && redirects_f
 abbrev pub is_formed : p.Items → Bool
 is_formed t = list_all (λ (l : Located). command_formed l.command) (items_located outside t)
 
--- what may be left from within: as the profile requires it
+-- what may be left from within: as the profile requires it in a process of its own
 abbrev pub surroundings_of : Around → Surroundings
-surroundings_of x = record { loop = not (length x.loops == 0); function = is_some x.function }
+surroundings_of x = record { loops = min (length x.loops) 255; function = is_some x.function; beyond = false }
 
 -- Inclusions
 

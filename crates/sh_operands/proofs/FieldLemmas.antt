@@ -29,7 +29,7 @@ use Rattle.sh_tree.proofs.ProgramRules as rules
 use Rattle.sh_runs.specs.Counts.{Parameters, One, Nothing, count_of, is_parameters, word_has_all, gives_field, some_gives_field}
 use Rattle.sh_table.specs.WordTexts.{lone_part}
 use Rattle.sh_operands.specs.declared.counts.Total.{Total}
-use Rattle.sh_operands.specs.Numerals.{capped}
+use Rattle.sh_table.specs.Numerals.{capped}
 use Rattle.sh_operands.specs.Looks.{special_is_all, subject_is_all}
 use Rattle.sh_operands.specs.Fields.{action_gives, use_gives, operator_gives, part_gives, is_value, is_at, are_at, expands_all, are_all, quotes_all, quotes_at, are_quoted, is_field, no_fields, counted, counted_word, Counting, counting, skipping, word_counted, element_counted}
 

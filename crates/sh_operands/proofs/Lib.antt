@@ -1,4 +1,3 @@
-pub mod NumeralLemmas
 pub mod TextLemmas
 pub mod LookLemmas
 pub mod FieldLemmas

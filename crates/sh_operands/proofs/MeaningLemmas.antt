@@ -13,7 +13,7 @@ use Rattle.sh_runs.specs.standard.runs.Operands.{Removal, OfVariables, OfFunctio
 use Rattle.sh_operands.specs.declared.counts.Total.{Total}
 use Rattle.sh_operands.specs.Fields.{no_fields, counted, counted_word}
 use Rattle.sh_operands.specs.Meaning.{UnsetReads, UnsetKeeps, SetReads, SetStays, NumbersRead, FieldsCount, least_of}
-use Rattle.sh_operands.specs.Numerals.{most, capped}
+use Rattle.sh_table.specs.Numerals.{most, capped}
 use Rattle.sh_operands.specs.Texts.{takes_variables, takes_functions, positional_at}
 use Rattle.sh_operands.proofs.TextLemmas.{unset_told}
 

@@ -16,7 +16,7 @@ use Rattle.sh_tree.specs.standard.program.Words.{words_in, operands_in}
 use Rattle.sh_runs.specs.Counts.{Count, Parameters, One, Nothing, count_of, word_has_all, gives_field, some_gives_field}
 use Rattle.sh_operands.specs.declared.counts.Total.{Total}
 use Rattle.sh_operands.specs.Looks.{subject_is_all}
-use Rattle.sh_operands.specs.Numerals.{capped}
+use Rattle.sh_table.specs.Numerals.{capped}
 
 -- parts that give a field
 

@@ -1,4 +1,3 @@
-pub mod Numerals
 pub mod Texts
 pub mod Looks
 pub mod Fields

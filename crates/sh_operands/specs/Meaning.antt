@@ -12,7 +12,7 @@ use Rattle.sh_runs.specs.standard.runs.Numbers.{number_in}
 use Rattle.sh_runs.specs.standard.runs.Operands.{Removal, unset_operands, set_words}
 use Rattle.sh_operands.specs.declared.counts.Total.{Total}
 use Rattle.sh_operands.specs.Fields.{no_fields, counted_word}
-use Rattle.sh_operands.specs.Numerals.{most, capped}
+use Rattle.sh_table.specs.Numerals.{most, capped}
 use Rattle.sh_operands.specs.Texts.{no_letters, removal_in, takes_variables, takes_functions, unset_behind, positional_at}
 
 -- the static texts of operands

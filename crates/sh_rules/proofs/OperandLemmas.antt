@@ -21,7 +21,7 @@ use Rattle.sh_domain.proofs.MeetLemmas.{known_same}
 use Rattle.sh_gains.specs.Statics.{listed}
 use Rattle.sh_gains.proofs.KindLemmas.{texts_listed}
 use Rattle.sh_operands.specs.declared.options.Letters.{Letters}
-use Rattle.sh_operands.specs.Numerals.{capped}
+use Rattle.sh_table.specs.Numerals.{capped}
 use Rattle.sh_operands.specs.Texts.{no_letters, removal_in, takes_variables, takes_functions, unset_behind, positional_at}
 use Rattle.sh_operands.proofs.TextLemmas.{unset_told}
 use Rattle.sh_rules.specs.Settings.{Setting, certificate}

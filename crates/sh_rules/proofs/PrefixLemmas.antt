@@ -57,7 +57,7 @@ pub prefixes_are_numbered : PrefixesAreNumbered
 unfolding has_numbered_prefixes
 prefixes_are_numbered b t d names n =
     let q = is_one_of names in
-    script_walked (λ x c. list_all q (prefixes_in c)) (trees.script_of b t)
+    script_walked (λ x c. list_all q (prefixes_in c)) (λ e x c k. k) (trees.script_of b t)
     (all_stand b (λ (c : Command). list_all (λ (s : Sight). q s.name) (in_command b c)) (λ c. list_all q (prefixes_in c)) (command_named b q) (empty_named q)
     outside t (seen_reach b t d names n))
 

@@ -25,7 +25,7 @@ use Rattle.sh_domain.specs.Views.{Before}
 use Rattle.sh_domain.proofs.TotalLemmas.{rows_length}
 use Rattle.sh_gains.specs.Claims.{kept_claims}
 use Rattle.sh_gains.proofs.TextLemmas.{has_texts, own_texts, table_texts}
-use Rattle.sh_operands.specs.Numerals.{most}
+use Rattle.sh_table.specs.Numerals.{most}
 use Rattle.sh_rules.specs.declared.claims.Claims.{Claims}
 use Rattle.sh_rules.specs.Asking.{Asking}
 use Rattle.sh_rules.specs.Settings.{Setting, certificate}

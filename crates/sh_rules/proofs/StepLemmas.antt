@@ -11,7 +11,7 @@ use Rattle.sh_runs.specs.Counts as counts'
 use Rattle.sh_runs.specs.Counts.{Parameters, One, Nothing, count_of}
 use Rattle.sh_operands.specs.declared.counts.Total as code
 use Rattle.sh_operands.specs.Fields.{counted, counted_word, no_fields}
-use Rattle.sh_operands.specs.Numerals.{most, capped}
+use Rattle.sh_table.specs.Numerals.{most, capped}
 use Rattle.sh_domain.specs.Facts.{Facts, NotReached, Known}
 use Rattle.sh_domain.specs.Knowledge.{knowledge_facts}
 use Rattle.sh_domain.specs.Operands.{Total, total}

@@ -34,7 +34,7 @@ use Rattle.sh_domain.specs.Table.{operands}
 use Rattle.sh_domain.specs.Views.{Count, Shift, step, where_known, counted_by}
 use Rattle.sh_domain.proofs.KnowledgeLemmas.{numbered_only}
 use Rattle.sh_gains.specs.Statics.{listed}
-use Rattle.sh_operands.specs.Numerals.{capped}
+use Rattle.sh_table.specs.Numerals.{capped}
 use Rattle.sh_operands.specs.Texts.{positional_at}
 use Rattle.sh_rules.specs.Settings.{Setting, gained}
 use Rattle.sh_rules.specs.Behind.{Behind, both, either}

@@ -19,7 +19,7 @@ use Rattle.sh_domain.specs.Rules.{loop_at, jump_loop}
 use Rattle.sh_domain.specs.Table as table
 use Rattle.sh_domain.specs.Table.{Utility, operands, prefixes, manner, manner_of_words, manner_of_name, is_special}
 use Rattle.sh_domain.specs.Views.{Lose}
-use Rattle.sh_operands.specs.Numerals.{most, capped}
+use Rattle.sh_table.specs.Numerals.{most, capped}
 use Rattle.sh_rules.specs.Asking.{Asking}
 use Rattle.sh_rules.specs.Behind.{Behind, both, either}
 use Rattle.sh_rules.specs.Bounds.{fault, leaves_told}

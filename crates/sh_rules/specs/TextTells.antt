@@ -18,7 +18,7 @@ use Rattle.sh_domain.specs.Entries.{Around}
 use Rattle.sh_domain.specs.Facts.{Facts}
 use Rattle.sh_domain.specs.Rules.{jump_loop}
 use Rattle.sh_domain.specs.Table.{operands, prefixes, manner, is_special}
-use Rattle.sh_operands.specs.Numerals.{most, capped}
+use Rattle.sh_table.specs.Numerals.{most, capped}
 use Rattle.sh_rules.specs.Asking.{Asking}
 use Rattle.sh_rules.specs.Settings.{Setting, certificate}
 use Rattle.sh_rules.specs.Bounds.{fault, leaves_told}

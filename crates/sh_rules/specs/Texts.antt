@@ -11,7 +11,7 @@ use Rattle.sh_runs.specs.standard.runs.Operands.{unset_operands}
 use Rattle.sh_runs.specs.standard.runs.Operands as o
 use Rattle.sh_domain.specs.Operands.{Names, removed, status}
 use Rattle.sh_gains.specs.Statics.{listed}
-use Rattle.sh_operands.specs.Numerals.{capped}
+use Rattle.sh_table.specs.Numerals.{capped}
 use Rattle.sh_operands.specs.Texts.{positional_at}
 
 -- the names that `unset` takes

@@ -29,6 +29,7 @@ use Rattle.sh_runs.proofs.EnvironmentLemmas.{if_either, showing_kept, hiding_kep
 use Rattle.sh_runs.proofs.ExpansionLemmas as expansion
 use Rattle.sh_runs.proofs.ExpansionLemmas.{Each, each_parts, each_joined, word_kept}
 use Rattle.sh_runs.proofs.MarkLemmas.{around}
+use Rattle.sh_runs.proofs.PartLemmas.{commands_freed, freed}
 use Rattle.sh_runs.proofs.ProcessLemmas.{StartHolds, StartsHold, EffectHolds, goes_holds, ends_holds, work_holds, run_holds}
 
 -- What is known of a simple command while its words are expanded: by what is round it, the words
@@ -36,8 +37,10 @@ use Rattle.sh_runs.proofs.ProcessLemmas.{StartHolds, StartsHold, EffectHolds, go
 abbrev pub Known : Type 1
 Known = Surroundings → Simple → p.Words → List Text → Type 0
 
--- it holds of each simple command that passes the test, and goes on holding
+-- The test asks no more of a command in a process of its own than in a part of a pipeline. What is
+-- known holds of each simple command that passes it, and goes on holding.
 pub record Follows (ok : Located → Bool) (Q : Known) : Type 0 where
+  pub freer : (b : Bool) (x : Surroundings) (c : p.Command) → ok (record { command = c; surroundings = x }) ≡ true → ok (record { command = c; surroundings = freed b x }) ≡ true
   pub begins : (x : Surroundings) (number at : ℕ) (es : p.Elements) (rs : p.Redirects)
       → ok (record { command = p.command number at (p.Simple es) rs; surroundings = x }) ≡ true → Q x (record { number = number; elements = es }) (operands_in es) []
   pub goes : (x : Surroundings) (k : Simple) (w : p.Word) (left : p.Words) (ts : List Text) (e : Environment) (f : Frame) (status : ℕ) (a : Answer)
@@ -329,7 +332,8 @@ module _ (ok : Located → Bool) (Q : Known) where
     piped_stands behind (p.more_commands c p.no_commands) k h =
         on status (Command c ∷ behind) ((each_parts ok (command_located (around behind) c) _ h).0, k)
     piped_stands behind (p.more_commands c (p.more_commands d cs)) k h =
-        starting_stands _ _ (on a.status behind k) (parts_stand 0 (p.more_commands c (p.more_commands d cs)) h)
+        starting_stands _ _ (on a.status behind k)
+        (parts_stand 0 (p.more_commands c (p.more_commands d cs)) (commands_freed ok follows.freer false (in_part (around behind) (p.more_commands c (p.more_commands d cs))) (p.more_commands c (p.more_commands d cs)) h))
 
     pipeline_stands : (q : p.Pipeline) → Each ok (pipeline_located (around ws) q) → EffectStands (act_on e f status ws a (Pipeline q))
     unfolding items_located act_on negated_work LeftStands WorkStands around

@@ -8,6 +8,7 @@ pub mod FieldRowLemmas
 pub mod FormLemmas
 pub mod KindLemmas
 pub mod LeftLemmas
+pub mod PartLemmas
 pub mod MarkLemmas
 pub mod OperandLemmas
 pub mod PositionLemmas

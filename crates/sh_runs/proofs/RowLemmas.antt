@@ -9,13 +9,13 @@ use Rattle.sh_tree.specs.declared.known.KnownName.TheVariants as known
 use Rattle.sh_tree.specs.declared.refusal.Rule.{Rule}
 use Rattle.sh_tree.specs.standard.program.Syntax as p
 use Rattle.sh_tree.specs.standard.program.Syntax.{Text}
-use Rattle.sh_tree.specs.standard.program.Words.{static_of, words_in, is_plainly}
+use Rattle.sh_tree.specs.standard.program.Words.{static_of, words_in, operands_in, is_plainly}
 use Rattle.sh_runs.specs.declared.kind.Kind.{Kind}
 use Rattle.sh_runs.specs.declared.kind.Kind.TheVariants as kind
 use Rattle.sh_runs.specs.standard.Kinds.{kind_of, is_declaration}
 use Rattle.sh_runs.specs.Counts.{some_gives_field}
-use Rattle.sh_runs.specs.Surroundings.{Surroundings, Located, outside, items_located}
-use Rattle.sh_runs.specs.Profile.{Static, unless, or_rule, kind_rule, named_rule, words_rule, command_rule, refused_at}
+use Rattle.sh_runs.specs.Surroundings.{Surroundings, Located, has_loop, outside, items_located}
+use Rattle.sh_runs.specs.Profile.{Static, unless, or_rule, are_enough, jumps_inside, kind_rule, named_rule, words_rule, command_rule, refused_at}
 use Rattle.sh_runs.specs.Rows.{text_gives_field, kind_gives_fields, command_gives_fields, RowsAreThere}
 use Rattle.sh_runs.specs.standard.runs.Environment.{Environment, Frame}
 use Rattle.sh_runs.specs.standard.runs.Answers.{Answer}
@@ -29,6 +29,7 @@ use Rattle.sh_runs.proofs.AdmittedLemmas.{is_free, items_listed, mapped}
 use Rattle.sh_runs.proofs.ExpansionLemmas.{Each}
 use Rattle.sh_runs.proofs.LeftLemmas.{Known, Follows, LeftStands, WorkStands, run_stands}
 use Rattle.sh_runs.proofs.MarkLemmas.{around, loop_is_marked, function_is_marked}
+use Rattle.sh_runs.proofs.PartLemmas.{freed}
 use Rattle.sh_runs.proofs.StaticLemmas.{static_fields}
 
 -- Fields of words
@@ -106,8 +107,8 @@ commands_fit (Some t ∷ ss) us h k =
 
 -- a command with this name and these operands after it has a row, if these are round it
 unfoldable name_has_row : Surroundings → Kind → List Text → Bool
-name_has_row x (kind.Special known.Break) ts = list_all (λ t. is_count (Some t)) ts && x.loop
-name_has_row x (kind.Special known.Continue) ts = list_all (λ t. is_count (Some t)) ts && x.loop
+name_has_row x (kind.Special known.Break) ts = list_all (λ t. is_count (Some t)) ts && has_loop x
+name_has_row x (kind.Special known.Continue) ts = list_all (λ t. is_count (Some t)) ts && has_loop x
 name_has_row x (kind.Special known.Return) ts = x.function
 name_has_row x (kind.Special known.Dot) ts = false
 name_has_row x (kind.Special known.Eval) ts = false
@@ -126,17 +127,17 @@ unfolding or_rule
 or_none None r h = (refl, h)
 or_none (Some q) r h = cc
 
-jumps_fit : (loop : Bool) (ss : List Static) (us : List Text) (q r : Rule) → or_rule (unless (list_all is_count ss) q) (unless loop r) ≡ None → Fits ss us
-    → (list_all (λ t. is_count (Some t)) us && loop) ≡ true
-jumps_fit loop ss us q r h k =
+jumps_fit : (x : Surroundings) (ss : List Static) (us : List Text) (q r : Rule) → or_rule (unless (list_all is_count ss) q) (unless (jumps_inside x ss) r) ≡ None → Fits ss us
+    → (list_all (λ t. is_count (Some t)) us && has_loop x) ≡ true
+jumps_fit x ss us q r h k =
     let both = or_none _ _ h in
-    rw (counts_fit ss us (unless_none _ q both.0) k, unless_none loop r both.1) refl
+    rw (counts_fit ss us (unless_none _ q both.0) k, (and_parts (has_loop x) _ (unless_none _ r both.1)).0) refl
 
 kind_fits : (x : Surroundings) (quoted : Bool) (k : Kind) (ss : List Static) (us : List Text) → kind_rule x quoted k ss ≡ None
     → (is_declaration k ≡ false → Fits ss us) → name_has_row x k us ≡ true
 unfolding kind_rule is_declaration name_has_row
-kind_fits x quoted (kind.Special known.Break) ss us h k = jumps_fit x.loop ss us _ _ h (k refl)
-kind_fits x quoted (kind.Special known.Continue) ss us h k = jumps_fit x.loop ss us _ _ h (k refl)
+kind_fits x quoted (kind.Special known.Break) ss us h k = jumps_fit x ss us _ _ h (k refl)
+kind_fits x quoted (kind.Special known.Continue) ss us h k = jumps_fit x ss us _ _ h (k refl)
 kind_fits x quoted (kind.Special known.Return) ss us h k = unless_none x.function _ h
 kind_fits x quoted (kind.Special known.Dot) ss us h k = cc
 kind_fits x quoted (kind.Special known.Eval) ss us h k = cc
@@ -211,9 +212,54 @@ free_rule x number at kind rs h = go (command_rule x kind) (ap not (sym (mapped 
     go None i = refl
     go (Some r) i = cc
 
+-- outside of parts of pipelines no more is refused
+
+or_freed : (q r s : Option Rule) → or_rule q r ≡ None → (r ≡ None → s ≡ None) → or_rule q s ≡ None
+unfolding or_rule
+or_freed None r s h k = k h
+or_freed (Some q) r s h k = cc
+
+jumps_freed : (loop b beyond enough : Bool) (r : Rule) → unless (loop && (not beyond || enough)) r ≡ None → unless (loop && (not (b && beyond) || enough)) r ≡ None
+unfolding unless
+jumps_freed false b beyond enough r h = cc
+jumps_freed true false beyond enough r h = refl
+jumps_freed true true beyond enough r h = h
+
+kind_freed : (b : Bool) (x : Surroundings) (quoted : Bool) (k : Kind) (ss : List Static) → kind_rule x quoted k ss ≡ None → kind_rule (freed b x) quoted k ss ≡ None
+unfolding kind_rule
+kind_freed b x quoted (kind.Special known.Break) ss h = or_freed _ _ _ h (jumps_freed (has_loop x) b x.beyond (are_enough x.loops ss) _)
+kind_freed b x quoted (kind.Special known.Continue) ss h = or_freed _ _ _ h (jumps_freed (has_loop x) b x.beyond (are_enough x.loops ss) _)
+kind_freed b x quoted k ss h = h
+
+named_freed : (b : Bool) (x : Surroundings) (w : p.Word) (o : Static) (ss : List Static) → named_rule x w o ss ≡ None → named_rule (freed b x) w o ss ≡ None
+unfolding named_rule or_rule
+named_freed b x w None ss h = cc
+named_freed b x w (Some t) ss h = let both = or_none _ _ h in rw (kind_freed b x _ _ ss both.0) both.1
+
+words_freed : (b : Bool) (x : Surroundings) (ws : p.Words) → words_rule x ws ≡ None → words_rule (freed b x) ws ≡ None
+unfolding words_rule
+words_freed b x p.no_words h = refl
+words_freed b x (p.more_words w ws) h = named_freed b x w (static_of w) _ h
+
+rule_freed : (b : Bool) (x : Surroundings) (k : p.Kind) → command_rule x k ≡ None → command_rule (freed b x) k ≡ None
+unfolding command_rule
+rule_freed b x (p.Simple es) h = words_freed b x (operands_in es) h
+rule_freed b x k h = h
+
+pub free_freed : (b : Bool) (x : Surroundings) (c : p.Command) → is_free (record { command = c; surroundings = x }) ≡ true → is_free (record { command = c; surroundings = freed b x }) ≡ true
+unfolding refused_at
+free_freed b x (p.command number at kind rs) h =
+    ap not (mapped _ (command_rule (freed b x) kind)) ∙ ap (λ (o : Option Rule). not (is_some o)) (rule_freed b x kind (free_rule x number at kind rs h))
+
+passes_freed : (b : Bool) (x : Surroundings) (c : p.Command) → passes (record { command = c; surroundings = x }) ≡ true → passes (record { command = c; surroundings = freed b x }) ≡ true
+passes_freed b x c h =
+    let both = and_parts (is_free (record { command = c; surroundings = x })) _ h in
+    rw (free_freed b x c both.0, both.1) refl
+
 rows_follow : Follows passes RowsKnown
 unfolding RowsKnown command_rule command_gives_fields kind_gives_fields
 rows_follow = record {
+  freer = passes_freed;
   begins = λ x number at es rs h.
       let l : Located = record { command = p.command number at (p.Simple es) rs; surroundings = x } in
       let both = and_parts (is_free l) _ h in

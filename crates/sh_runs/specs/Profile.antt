@@ -1,7 +1,7 @@
 -- Which commands are refused before any analysis, and by which rule.
 -- POSIX.1-2024, XCU 2.9.1 (simple commands), 2.9.5 (function definitions), 2.15 (special built-in
 -- utilities), 3 (command).
-use Rattle.std.specs.Prelude.{ℕ, ◌+◌, ◌==◌, nat_lt, Bool, true, false, not, ◌&&◌, ◌||◌, if◌then◌else◌, List, [], ◌∷◌, length, drop, map, Option, Some, None, is_some, option_map}
+use Rattle.std.specs.Prelude.{ℕ, ◌+◌, ◌==◌, nat_lt, nat_le, Bool, true, false, not, ◌&&◌, ◌||◌, if◌then◌else◌, List, [], ◌∷◌, length, drop, map, Option, Some, None, is_some, option_map}
 use Rattle.std.specs.List.{list_all, filter_map}
 use Rattle.sh_tree.specs.declared.known.Declaration.TheVariants as declaration
 use Rattle.sh_tree.specs.declared.known.KnownName.{KnownName}
@@ -15,7 +15,8 @@ use Rattle.sh_tree.specs.standard.program.Words.{static_of, is_plainly, words_in
 use Rattle.sh_runs.specs.declared.kind.Kind.{Kind}
 use Rattle.sh_runs.specs.declared.kind.Kind.TheVariants as kind
 use Rattle.sh_runs.specs.standard.Kinds.{kind_of}
-use Rattle.sh_runs.specs.Surroundings.{Surroundings, Located, outside, items_located}
+use Rattle.sh_runs.specs.Surroundings.{Surroundings, Located, has_loop, outside, items_located}
+use Rattle.sh_runs.specs.standard.runs.Numbers.{number_in}
 use Rattle.sh_runs.specs.standard.runs.Operands.{ends_options, is_set_option, ends_in_o}
 use Rattle.sh_runs.specs.standard.runs.Rows.{traps_nothing, commands_utility, is_count, is_reserved_elsewhere}
 
@@ -66,6 +67,20 @@ unfoldable pub or_rule : Option Rule → Option Rule → Option Rule
 or_rule None r = r
 or_rule (Some q) r = Some q
 
+-- no number, or one that is no greater
+unfoldable pub is_at_most : ℕ → Option ℕ → Bool
+is_at_most most None = true
+is_at_most most (Some n) = nat_le n most
+
+-- the loops that a jump leaves or turns, one without an operand, are no more than these
+unfoldable pub are_enough : ℕ → List Static → Bool
+are_enough loops (Some t ∷ xs) = is_at_most loops (number_in t)
+are_enough loops xs = true
+
+-- `break` and `continue`: a loop is round them, and they stay in their part of a pipeline
+abbrev pub jumps_inside : Surroundings → List Static → Bool
+jumps_inside x ts = has_loop x && (not x.beyond || are_enough x.loops ts)
+
 -- the rule that a command with this name breaks, with these operands
 unfoldable pub kind_rule : Surroundings → Bool → Kind → List Static → Option Rule
 kind_rule x quoted (kind.Special known.Dot) ts = Some (rule.Refused known.Dot)
@@ -77,8 +92,8 @@ kind_rule x quoted (kind.Special known.Trap) ts = unless (traps_nothing ts) rule
 kind_rule x quoted kind.Command ts = unless (commands_utility ts) rule.CommandUse
 kind_rule x quoted (kind.Special known.Unset) ts = unless (list_all is_some ts) rule.UnsetOperand
 kind_rule x quoted (kind.Special known.Set) ts = unless (sets_known false ts) rule.SetOperand
-kind_rule x quoted (kind.Special known.Break) ts = or_rule (unless (list_all is_count ts) rule.BreakOperand) (unless x.loop rule.BreakOutside)
-kind_rule x quoted (kind.Special known.Continue) ts = or_rule (unless (list_all is_count ts) rule.ContinueOperand) (unless x.loop rule.ContinueOutside)
+kind_rule x quoted (kind.Special known.Break) ts = or_rule (unless (list_all is_count ts) rule.BreakOperand) (unless (jumps_inside x ts) rule.BreakOutside)
+kind_rule x quoted (kind.Special known.Continue) ts = or_rule (unless (list_all is_count ts) rule.ContinueOperand) (unless (jumps_inside x ts) rule.ContinueOutside)
 kind_rule x quoted (kind.Special known.Return) ts = unless x.function rule.ReturnOutside
 kind_rule x quoted _ ts = None
 

@@ -1,13 +1,19 @@
 -- The commands of a program, each with what is round it.
 -- POSIX.1-2024, XCU 2.9 (shell commands), 2.15 (break, continue, return).
-use Rattle.std.specs.Prelude.{Bool, true, false, List, [], ◌∷◌, ◌++◌}
+use Rattle.std.specs.Prelude.{ℕ, ◌+◌, nat_lt, Bool, true, false, ◌||◌, List, [], ◌∷◌, ◌++◌, min}
 use Rattle.sh_tree.specs.standard.program.Syntax as p
 
--- whether a loop, and a function, are round a place, with no started process, part of a pipeline or
--- other definition between
+-- How many loops, and whether a function, are round a place, with no started process, part of a
+-- pipeline or other definition between: loops up to 255, and no script that is read has more.
+-- `beyond`: a loop is round the pipeline that the place is in a part of. If the part runs in the
+-- shell (2.13), a jump past the loops of the part leaves or turns that loop.
 pub record Surroundings : Type 0 where
-  pub loop : Bool
+  pub loops : ℕ
   pub function : Bool
+  pub beyond : Bool
+
+abbrev pub has_loop : Surroundings → Bool
+has_loop x = nat_lt 0 x.loops
 
 pub record Located : Type 0 where
   pub command : p.Command
@@ -15,17 +21,17 @@ pub record Located : Type 0 where
 
 -- a started process, a part of a pipeline, and the script
 abbrev pub outside : Surroundings
-outside = record { loop = false; function = false }
+outside = record { loops = 0; function = false; beyond = false }
 
 abbrev pub in_loop : Surroundings → Surroundings
-in_loop x = record x { loop = true }
+in_loop x = record x { loops = min (x.loops + 1) 255 }
 
 abbrev pub in_function : Surroundings
-in_function = record { loop = false; function = true }
+in_function = record { loops = 0; function = true; beyond = false }
 
 -- a pipeline of two or more has parts
 unfoldable pub in_part : Surroundings → p.Commands → Surroundings
-in_part x (p.more_commands c (p.more_commands d cs)) = outside
+in_part x (p.more_commands c (p.more_commands d cs)) = record { loops = 0; function = false; beyond = has_loop x || x.beyond }
 in_part x _ = x
 
 unfoldable pub in_item : Surroundings → Bool → Surroundings

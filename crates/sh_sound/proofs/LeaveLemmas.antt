@@ -1,5 +1,5 @@
 -- The built-in utilities `break`, `continue` and `return`, by the operands that their rules read.
-use Rattle.std.proofs.Common.{◌≡◌, ℕ, ◌==◌, Bool, true, false, not, List, [], ◌∷◌, ◌++◌, length, map, Option, Some, None, is_some, unwrap_or, option_and_then, refl, sym, ap, ◌∙◌, subst, true≢false}
+use Rattle.std.proofs.Common.{◌≡◌, ℕ, nat_lt, min, Bool, true, false, not, ◌&&◌, ◌||◌, List, [], ◌∷◌, ◌++◌, length, map, Option, Some, None, is_some, unwrap_or, option_and_then, refl, sym, ap, ◌∙◌, subst, true≢false}
 use Rattle.std.specs.List.{list_all}
 use Rattle.std.proofs.lemmas.Bool.{and_parts}
 use Rattle.sh_tree.specs.declared.known.KnownName.{KnownName}
@@ -9,7 +9,7 @@ use Rattle.sh_tree.specs.standard.program.Syntax as p
 use Rattle.sh_tree.specs.standard.program.Syntax.{Text, Word}
 use Rattle.sh_tree.specs.standard.program.Words.{static_of, words_in}
 use Rattle.sh_runs.specs.declared.kind.Kind.TheVariants as kind
-use Rattle.sh_runs.specs.Profile.{Static, unless, or_rule, kind_rule}
+use Rattle.sh_runs.specs.Profile.{Static, unless, or_rule, jumps_inside, kind_rule}
 use Rattle.sh_runs.specs.standard.runs.Answers.{Answer}
 use Rattle.sh_runs.specs.standard.runs.Builtins.{special}
 use Rattle.sh_runs.specs.standard.runs.Environment.{Environment, Frame}
@@ -65,7 +65,7 @@ unfolding or_rule unless
 both_passed true b q r h = (refl, passed b r h)
 both_passed false b q r h = cc
 
-in_loops : (n : ℕ) (ls : List ℕ) → not (length ls == 0) ≡ true → is_some (loop_at n ls) ≡ true
+in_loops : (n : ℕ) (ls : List ℕ) → (nat_lt 0 (min (length ls) 255) && true) ≡ true → is_some (loop_at n ls) ≡ true
 in_loops n [] h = cc
 in_loops n (l ∷ ls) h = loop_found n l ls
 
@@ -84,7 +84,7 @@ module _ (d : Facts) (c : Certificate) (defined : List Text) (SimpleAt : Around 
       → Ok (special e (front fs) status ws a vs known.Break ts)
   unfolding kind_rule special JumpRules jump_loop
   break_leaves m quoted vs others ts s o us live good given admitted rules h =
-      let pass = both_passed (list_all is_count (map static_of others)) (not (length (around base ws).loops == 0)) _ _ admitted in
+      let pass = both_passed (list_all is_count (map static_of others)) (jumps_inside (surroundings_of (around base ws)) (map static_of others)) _ _ admitted in
       let k = counts m others ts given pass.0 in
       subst (λ n. Ok (goes e (front fs) a.status (broken_off (loop_mark (unwrap_or n 1) ws) ws))) (sym k.done)
       (break_ok d c defined SimpleAt base e fs status ws k.count a.status s o us live good (in_loops k.count (around base ws).loops pass.1)
@@ -95,7 +95,7 @@ module _ (d : Facts) (c : Certificate) (defined : List Text) (SimpleAt : Around 
       → Ok (special e (front fs) status ws a vs known.Continue ts)
   unfolding kind_rule special JumpRules jump_loop
   continue_leaves m quoted vs others ts s o us live good given admitted rules h =
-      let pass = both_passed (list_all is_count (map static_of others)) (not (length (around base ws).loops == 0)) _ _ admitted in
+      let pass = both_passed (list_all is_count (map static_of others)) (jumps_inside (surroundings_of (around base ws)) (map static_of others)) _ _ admitted in
       let k = counts m others ts given pass.0 in
       subst (λ n. Ok (goes e (front fs) a.status (continued (loop_mark (unwrap_or n 1) ws) ws))) (sym k.done)
       (continue_ok d c defined SimpleAt base e fs status ws k.count a.status s o us live good (in_loops k.count (around base ws).loops pass.1)

@@ -31,7 +31,7 @@ use Rattle.sh_domain.specs.Views.{Slot}
 use Rattle.sh_domain.proofs.DifferLemmas.{read_is_numbered}
 use Rattle.sh_domain.proofs.TotalLemmas.{read_has_few_commands, rows_length}
 use Rattle.sh_gains.proofs.TextLemmas.{has_texts, entered_have}
-use Rattle.sh_operands.specs.Numerals.{most}
+use Rattle.sh_table.specs.Numerals.{most}
 use Rattle.sh_drafts.specs.Facts as number
 use Rattle.sh_rules.specs.declared.claims.Claims.{Claims}
 use Rattle.sh_rules.specs.Settings.{Setting, certificate, claimed_at}

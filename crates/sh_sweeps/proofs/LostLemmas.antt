@@ -418,7 +418,7 @@ unset_numbered : (b : List ℕ) (d : Declared) (t : Script) (names : List Text) 
     → list_all (λ (e : Entered). list_all (is_one_of names) (unset_in e.command)) (script_entered (trees.script_of b t)) ≡ true
 unset_numbered b d t names n =
     let q = is_one_of names in
-    script_walked (λ x c. list_all q (unset_in c)) (trees.script_of b t)
+    script_walked (λ x c. list_all q (unset_in c)) (λ e x c k. k) (trees.script_of b t)
     (all_stand b (λ (c : Command). list_all (λ (s : Sight). q s.name) (in_command b c)) (λ c. list_all q (unset_in c)) (command_seen b q) (empty_seen q) outside t (seen_reach b t d names n))
 
 -- OPTARG is one of the first names

@@ -9,3 +9,4 @@ pub mod WalkLemmas
 pub mod TableLemmas
 pub mod NumberLemmas
 pub mod WordTextLemmas
+pub mod NumeralLemmas

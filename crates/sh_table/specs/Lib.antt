@@ -3,3 +3,4 @@ pub mod Walks
 pub mod Found
 pub mod KeptTable
 pub mod WordTexts
+pub mod Numerals

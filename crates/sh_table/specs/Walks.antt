@@ -1,6 +1,6 @@
 -- Clauses of private functions: the commands in each piece of a tree, in the order of the walk.
 -- POSIX.1-2024, XCU 2.9 (shell commands), 2.6.3 (command substitution), 2.7.4 (here-documents).
-use Rattle.std.specs.Prelude.{ℕ, nat_lt, Bool, true, false, not, if◌then◌else◌, List, [], ◌∷◌, ◌++◌, Option, Some, None}
+use Rattle.std.specs.Prelude.{ℕ, ◌+◌, nat_lt, min, Bool, true, false, not, ◌||◌, if◌then◌else◌, List, [], ◌∷◌, ◌++◌, Option, Some, None}
 use Rattle.std.specs.List.{flat_map}
 use Rattle.sh_tree.specs.declared.tree.AndOr.{AndOr}
 use Rattle.sh_tree.specs.declared.tree.Binary.{Binary}
@@ -31,7 +31,7 @@ use Rattle.sh_runs.specs.Sites.{Form, Simple, Defines, Other, Site, site_of, for
 use Rattle.sh_runs.specs.Surroundings.{Surroundings, Located, items_located, list_located, pipeline_located, command_located, kind_located, elements_located, redirect_located, part_located, operator_located, expression_located}
 
 abbrev pub around : Around → Surroundings
-around x = record { loop = x.in_loop; function = x.in_function }
+around x = record { loops = x.loops; function = x.in_function; beyond = x.beyond }
 
 -- What the profile requires of a command, beside the texts of its words
 
@@ -77,16 +77,16 @@ seen b s = record { number = s.number; at = s.at; surroundings = around s.around
 
 -- round the parts of a pipeline, and round an item
 abbrev pub outer : Around
-outer = record { in_loop = false; in_function = false }
+outer = record { loops = 0; in_function = false; beyond = false }
 
 abbrev pub inside_loop : Around → Around
-inside_loop x = record { in_loop = true; in_function = x.in_function }
+inside_loop x = record { loops = min (x.loops + 1) 255; in_function = x.in_function; beyond = x.beyond }
 
 abbrev pub inside_function : Around
-inside_function = record { in_loop = false; in_function = true }
+inside_function = record { loops = 0; in_function = true; beyond = false }
 
 abbrev pub round_parts : Around → ℕ → Around
-round_parts x n = if nat_lt 1 n then outer else x
+round_parts x n = if nat_lt 1 n then (record { loops = 0; in_function = false; beyond = nat_lt 0 x.loops || x.beyond }) else x
 
 abbrev pub round_item : Around → Bool → Around
 round_item x background = if background then outer else x

@@ -4,6 +4,7 @@
 mod found;
 mod functions;
 pub mod laws;
+mod numbers;
 mod operands;
 mod profile;
 mod rules;
@@ -13,6 +14,7 @@ mod table;
 pub mod walk;
 mod word_text;
 
+pub use numbers::number_in;
 pub use operands::{are_static, ends_in_o, is_number, is_set_option};
 pub use profile::admit;
 pub use sh_runs::{Kind, definition_in, ends_options, is_dashed, kind_of};

@@ -5,9 +5,11 @@ ghost use Rattle.sh_runs.specs.standard.Kinds as kinds;
 ghost use Rattle.sh_runs.specs.Profile as profile;
 ghost use Rattle.sh_table.specs.Walks as walks;
 ghost use Rattle.sh_table.specs.WordTexts.{text_in};
+ghost use Rattle.sh_runs.specs.standard.runs.Numbers as numbers;
 ghost use Rattle.sh_runs.specs.standard.runs.Rows as rows;
 ghost use Rattle.sh_runs.specs.declared.kind.Kind.TheVariants as kind;
 
+use crate::numbers::number_in;
 use crate::operands::{
     are_counts, are_static, commands_utility, is_append, sets_known, traps_nothing,
 };
@@ -38,6 +40,37 @@ fn is_reserved_elsewhere(name: KnownName) -> bool
         KnownName::Namespace => true,
         _ => false,
     }
+}
+
+// Whether a text writes no number, or one that is no greater than this.
+fn is_at_most(text: &[u8], most: u8) -> bool
+    ensures { result ≡ profile.is_at_most most (numbers.number_in text.now) }
+{
+    match number_in(text) {
+        None => true,
+        Some(number) => number <= u32::from(most),
+    }
+}
+
+// Whether there are as many loops as the first operand of a jump says, or it says no number.
+#[tactic(auto, unfolding(sh_runs::specs::Profile::are_enough))]
+fn are_enough(loops: u8, operands: &[WordText], script: &[u8]) -> bool
+    ensures { result ≡ profile.are_enough loops (map (text_in script.now) operands.now) }
+{
+    match operands {
+        [] => true,
+        [first, ..] => match first.get(script) {
+            None => true,
+            Some(text) => is_at_most(text, loops),
+        },
+    }
+}
+
+// Whether a jump is in a loop, and in a part of a pipeline stays there.
+fn jumps_inside(around: Around, operands: &[WordText], script: &[u8]) -> bool
+    ensures { result ≡ profile.jumps_inside (walks.around around) (map (text_in script.now) operands.now) }
+{
+    around.loops > 0 && (!around.beyond || are_enough(around.loops, operands, script))
 }
 
 #[tactic(auto, unfolding(sh_runs::specs::Profile::or_rule))]
@@ -71,13 +104,13 @@ fn special_rule(
         KnownName::Break => count_rule(
             are_counts(operands, script),
             Rule::BreakOperand,
-            around.in_loop,
+            jumps_inside(around, operands, script),
             Rule::BreakOutside,
         ),
         KnownName::Continue => count_rule(
             are_counts(operands, script),
             Rule::ContinueOperand,
-            around.in_loop,
+            jumps_inside(around, operands, script),
             Rule::ContinueOutside,
         ),
         KnownName::Return => unless(around.in_function, Rule::ReturnOutside),

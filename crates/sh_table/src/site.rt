@@ -2,12 +2,16 @@
 
 use sh_tree::Span;
 
-/// Whether a loop, and a function, are round a place. No started process, part of a pipeline or
-/// other definition is between (XCU 2.15, break and return).
+/// What is round a place, with no started process, part of a pipeline or other definition between
+/// (XCU 2.15, break and return).
 #[derive(Clone, Copy, Debug, PartialEq, Eq)]
 pub struct Around {
-    pub in_loop: bool,
+    /// How many loops are, up to 255.
+    pub loops: u8,
+    /// Whether a function is.
     pub in_function: bool,
+    /// Whether a loop is round the pipeline that the place is in a part of.
+    pub beyond: bool,
 }
 
 /// What a command is to the profile, beside the texts of its words.

@@ -35,14 +35,16 @@ pub trait Visitor {
 
 /// Round the list of a started process, and round the script.
 const OUTSIDE: Around = Around {
-    in_loop: false,
+    loops: 0,
     in_function: false,
+    beyond: false,
 };
 
 /// Round the body of a function.
 const IN_FUNCTION: Around = Around {
-    in_loop: false,
+    loops: 0,
     in_function: true,
+    beyond: false,
 };
 
 impl Around {
@@ -51,8 +53,8 @@ impl Around {
         ensures { result ≡ walks.inside_loop self }
     {
         Around {
-            in_loop: true,
-            in_function: self.in_function,
+            loops: self.loops.saturating_add(1),
+            ..self
         }
     }
 
@@ -60,7 +62,14 @@ impl Around {
     fn round_parts(self, count: usize) -> Around
         ensures { result ≡ walks.round_parts self count }
     {
-        if count > 1 { OUTSIDE } else { self }
+        if count > 1 {
+            Around {
+                beyond: self.loops > 0 || self.beyond,
+                ..OUTSIDE
+            }
+        } else {
+            self
+        }
     }
 
     /// Round an item: an asynchronous one is a process of its own.

@@ -8,7 +8,7 @@ use Rattle.sh_tree.specs.standard.program.Words.{static_of}
 use Rattle.sh_runs.specs.Profile.{Static}
 use Rattle.sh_runs.specs.declared.kind.Kind.{Kind}
 use Rattle.sh_runs.specs.declared.kind.Kind.TheVariants as kind
-use Rattle.sh_operands.specs.Numerals.{most, capped}
+use Rattle.sh_table.specs.Numerals.{most, capped}
 use Rattle.sh_domain.specs.declared.rule.FlowRule.TheVariants.{F4, F15}
 use Rattle.sh_domain.specs.Entries.{Around}
 use Rattle.sh_domain.specs.Operands.{first_number}

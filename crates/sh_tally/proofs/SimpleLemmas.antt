@@ -19,7 +19,7 @@ use Rattle.sh_runs.specs.standard.runs.Environment.{is_one_of}
 use Rattle.sh_runs.specs.standard.runs.Operands.{has_command}
 use Rattle.sh_operands.specs.declared.counts.Total as code
 use Rattle.sh_operands.specs.Fields.{counted, counted_word, no_fields}
-use Rattle.sh_operands.specs.Numerals.{most, capped}
+use Rattle.sh_table.specs.Numerals.{most, capped}
 use Rattle.sh_operands.specs.Texts.{positional_at}
 use Rattle.sh_domain.specs.declared.rule.FlowRule.{FlowRule}
 use Rattle.sh_domain.specs.declared.rule.FlowRule.TheVariants.{F4, F5, F14}

@@ -6,7 +6,7 @@ ghost use Rattle.sh_domain.specs.Operands.{total};
 ghost use Rattle.sh_domain.specs.Parameters.{with_parameters_of};
 ghost use Rattle.sh_domain.specs.Table.{operands};
 ghost use Rattle.sh_domain.specs.Views as views;
-ghost use Rattle.sh_operands.specs.Numerals.{capped};
+ghost use Rattle.sh_table.specs.Numerals.{capped};
 ghost use Rattle.sh_rules.specs.Losses.{function_lost, variable_lost};
 ghost use Rattle.sh_rules.specs.Settings.{Setting};
 ghost use Rattle.sh_rules.specs.SimpleBounds.{stepped};

@@ -6,7 +6,7 @@ ghost use Rattle.sh_table.specs.WordTexts.{text_in};
 ghost use Rattle.sh_runs.specs.standard.runs.Operands as operands;
 ghost use Rattle.sh_domain.specs.Operands.{status};
 ghost use Rattle.sh_domain.specs.Views as views;
-ghost use Rattle.sh_operands.specs.Numerals.{capped};
+ghost use Rattle.sh_table.specs.Numerals.{capped};
 ghost use Rattle.sh_rules.specs.Losses as losses;
 ghost use Rattle.sh_rules.specs.SimpleBounds.{stepped};
 ghost use Rattle.sh_rules.specs.Texts as spec;
@@ -14,9 +14,9 @@ ghost use Rattle.sh_rules.specs.Walks.{facts_in, setting};
 
 use crate::steps::{lose_function, lose_variable};
 use sh_domain::Knowledge;
-use sh_operands::{number_in, unset_operands};
+use sh_operands::unset_operands;
 use sh_rules::Claims;
-use sh_table::WordText;
+use sh_table::{WordText, number_in};
 use sh_tree::is_name;
 
 // Numbers

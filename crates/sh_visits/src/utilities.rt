@@ -11,7 +11,7 @@ ghost use Rattle.sh_domain.specs.Table as table;
 ghost use Rattle.sh_domain.specs.Views as views;
 ghost use Rattle.sh_rules.specs.Elements as pieces;
 ghost use Rattle.sh_rules.specs.Losses as losses;
-ghost use Rattle.sh_operands.specs.Numerals.{capped};
+ghost use Rattle.sh_table.specs.Numerals.{capped};
 ghost use Rattle.sh_rules.specs.Behind.{both, either};
 ghost use Rattle.sh_rules.specs.Settings.{Setting, gained};
 ghost use Rattle.sh_rules.specs.SimpleBounds as simple;

@@ -227,6 +227,14 @@ pub record PlacesAsExpected : Type 0 where
       (lone (compound (p.Subshell (says (codes "break")))) ∷ background (written 3 (codes "break")) ∷ both (written 3 (codes "break")) (written 4 (codes ":"))
       ∷ lone (p.command 2 0 (p.Simple (p.assignment (codes "x") (only (p.Substitution 0 (says (codes "break")))) p.no_elements)) p.no_redirects) ∷ [])
       ≡ replicate 4 (Some rule.BreakOutside)
+  -- past the loops of a part of a pipeline that is in a loop, and no further than these
+  pub past_part :
+      map (λ t. looping (both (written 3 (codes ":")) (compound (over a (says t))))) (codes "break 2" ∷ codes "continue 2" ∷ codes "break 02" ∷ codes "break" ∷ codes "continue 1" ∷ [])
+      ≡ Some rule.BreakOutside ∷ Some rule.ContinueOutside ∷ Some rule.BreakOutside ∷ None ∷ None ∷ []
+  pub in_part : looping (both (written 3 (codes ":")) (compound (over a (lone (compound (turning loop.While (says (codes "break 2")))))))) ≡ None
+  pub past_part_in_part :
+      looping (both (written 3 (codes ":")) (group (both (written 4 (codes ":")) (compound (over a (says (codes "break 2"))))))) ≡ Some rule.BreakOutside
+  pub part_alone : told_in (both (written 3 (codes ":")) (compound (over a (says (codes "break 2"))))) ≡ None
   pub in_function_in_loop : looping (lone (compound (function (says (codes "break"))))) ≡ Some rule.BreakOutside
   pub behind_loop : told_in (list (compound (turning loop.While colon) ∷ written 5 (codes "break") ∷ [])) ≡ Some rule.BreakOutside
   -- `return` in a function, and in a loop, an inner group and a redirected command in it; not in

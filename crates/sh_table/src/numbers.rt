@@ -1,9 +1,9 @@
 //! Numbers that operands write.
 ghost use Rattle.std.specs.Prelude.{◌≡◌, fold, option_map};
 ghost use Rattle.sh_runs.specs.standard.runs.Numbers as numbers;
-ghost use Rattle.sh_operands.specs.Numerals.{capped, with_digit};
+ghost use Rattle.sh_table.specs.Numerals.{capped, with_digit};
 
-use sh_table::is_number;
+use crate::operands::is_number;
 
 #[tactic(auto, unfolding(crate::specs::Numerals::with_digit))]
 fn with_digit(value: u32, byte: u8) -> u32

@@ -1,6 +1,6 @@
 use Rattle.std.proofs.Common.{◌≡◌, fold, take}
-use Rattle.sh_operands.specs.Numerals.{with_digit}
-use Rattle.sh_operands.proofs.numbers.value_of.Given as goal
+use Rattle.sh_table.specs.Numerals.{with_digit}
+use Rattle.sh_table.proofs.numbers.value_of.Given as goal
 
 -- the digits so far
 abbrev pub invariant-loop-byte : goal.invariant-loop-byte
