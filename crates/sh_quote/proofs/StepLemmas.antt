@@ -147,10 +147,11 @@ module _ (numbers : Bool) (e : Environment) (f : Frame) (status : ℕ) (ws : Lis
       either_good numbers (is_started_first e f status ws a kind) _ _
       (λ b. starting (goes e f a.status ws) _ (stay a.status) ((env, ((h, in_process_good kind k), tt)), tt))
       (λ b.
-      one_word (opened r) _ h.0
-      (λ s.
-      either_good numbers a.redirection_fails _ _ (λ q. failed_good _ s.environment)
-      (λ q. goes_good numbers _ f (status_behind (expand f status in_one (opened r) (fresh e a.given)).state status a) (Compound n left kind ∷ ws) s.environment ((h.1, k), rest))))
+      let t = (expand f status in_one (opened r) (fresh e a.given)).state in
+      let s : StateGood numbers t = expands numbers f status in_one (opened r) e a.given h.0 env in
+      expanded_good numbers _ false _ s (λ u. refl)
+      (either_good numbers a.redirection_fails _ _ (λ q. failed_good _ s.environment)
+      (λ q. unless_good numbers e f status ws a t _ s.environment (λ u. goes_good numbers _ f (status_behind t status a) (Compound n left kind ∷ ws) s.environment ((h.1, k), rest)))))
 
   branch_good : (n : ℕ) (branches : p.Branches) (otherwise : p.Otherwise) → BranchesGood numbers branches otherwise → EffectGood numbers (branch e f status ws a n branches otherwise)
   unfolding branch BranchesGood branches_located otherwise_located WorkGood AllWorkGood ItemsGood

@@ -551,10 +551,9 @@ module _ (ok : Located → Bool) (Q : Known) where
     unfolding redirected_before failed_before
     before_stands s next h k =
         after_stands s false _ h
-        (unless_stands s _ h.functions
-        (λ on. if_either EffectStands a.redirection_fails _ _
+        (if_either EffectStands a.redirection_fails _ _
         (if_either EffectStands a.redirection_ends _ _ (ends_stands s.environment f h.functions) (goes_stands s.environment f (nonzero a.status) ws h.functions left))
-        (goes_stands s.environment f (status_behind s status a) next h.functions k)))
+        (unless_stands s _ h.functions (λ on. goes_stands s.environment f (status_behind s status a) next h.functions k)))
 
     over_stands : (n : ℕ) (name : Text) (ts : List Text) (body : p.Items) → Each ok (items_located (in_loop (around ws)) body)
         → EffectStands (over_fields e f status ws a n name ts body)

@@ -21,7 +21,7 @@ use Rattle.sh_sound.specs.Going.{around, front, RedirectsAt, ForWordsAt, ItemsAt
 use Rattle.sh_sound.proofs.HoldLemmas.{grows_refl, one_grows, one_stepped, covers_at, holds_gain, both_holds, leaves_lead}
 use Rattle.sh_sound.proofs.ExpansionLemmas.{without_job_holds}
 use Rattle.sh_sound.proofs.ListLemmas.{began_alone, good_in, step_goes, step_ends, turned, turns_to, turn_goes, leads_same, stays_grow, nonzero_holds, frame_stays, same_frames}
-use Rattle.sh_sound.proofs.StepLemmas.{goes_plain, ends_plain, word_expands, behind_word, unless_ok, grown, word_step}
+use Rattle.sh_sound.proofs.StepLemmas.{goes_plain, ends_plain, word_expands, behind_word, expanded_ok, grown, word_step}
 use Rattle.sh_sound.proofs.CaseLemmas.{gain_two, fields_ok}
 
 pub is_nonzero : (n : ℕ) → (nonzero n == 0) ≡ false
@@ -195,17 +195,17 @@ module _ (d : Facts) (c : Certificate) (defined : List Text) where
           claimed : OneHolds d c s t.environment (front fs) → OneHolds d c (at (AfterNonzero n)) t.environment (front fs)
           claimed k = elim needs.failed [ inl f ↦ f t.environment (front fs) k | inr none ↦ cc ]
 
-          failed : (b : Bool) → Ok base e fs status (after_expansion t false (unless_ended e (front fs) status ws a t (if b then ends t.environment (front fs) else goes t.environment (front fs) (nonzero a.status) ws)))
+          failed : (b : Bool) → Ok base e fs status (after_expansion t false (if b then ends t.environment (front fs) else goes t.environment (front fs) (nonzero a.status) ws))
           failed true =
-              unless_ok d c defined SimpleAt base e fs status ws a t false (ends t.environment (front fs)) live.bodies does (ends_plain d c defined SimpleAt fs t.environment)
-              (λ k l. step_ends d c defined SimpleAt base e t.environment fs status does.grows (subst (Bodies d c defined) (sym does.functions) live.bodies)) (λ k l. does.grows)
+              expanded_ok d c defined SimpleAt base e fs status ws a t false (ends t.environment (front fs)) live.bodies does (ends_plain d c defined SimpleAt fs t.environment)
+              (λ k. step_ends d c defined SimpleAt base e t.environment fs status does.grows (subst (Bodies d c defined) (sym does.functions) live.bodies)) (λ k. does.grows)
           failed false =
-              unless_ok d c defined SimpleAt base e fs status ws a t false (goes t.environment (front fs) (nonzero a.status) ws) live.bodies does (goes_plain d c defined SimpleAt fs t.environment (nonzero a.status) ws)
-              (λ k l. step_goes d c defined SimpleAt base e t.environment fs status (nonzero a.status) ws does.grows
+              expanded_ok d c defined SimpleAt base e fs status ws a t false (goes t.environment (front fs) (nonzero a.status) ws) live.bodies does (goes_plain d c defined SimpleAt fs t.environment (nonzero a.status) ws)
+              (λ k. step_goes d c defined SimpleAt base e t.environment fs status (nonzero a.status) ws does.grows
               (grown d c defined SimpleAt base e fs status ws a t.environment (nonzero a.status) vs ws live (after_command n) does.grows does.functions behind
               (nonzero_holds d c defined SimpleAt (nonzero a.status) (after_command n) t.environment (front fs) (is_nonzero a.status)
               (claimed (one_grows d c s e t.environment (front fs) does.grows h)))))
-              (λ k l. does.grows)
+              (λ k. does.grows)
 
           next : Work
           next = Compound n rest kind
@@ -223,8 +223,9 @@ module _ (d : Facts) (c : Certificate) (defined : List Text) where
             needs = needs.needs;
           }
 
-          go : (b : Bool) → Ok base e fs status (after_expansion t false (unless_ended e (front fs) status ws a t
-              (if b then (if a.redirection_ends then ends t.environment (front fs) else goes t.environment (front fs) (nonzero a.status) ws) else goes t.environment (front fs) (status_behind t status a) (Compound n rest kind ∷ ws))))
+          go : (b : Bool) → Ok base e fs status (after_expansion t false
+              (if b then (if a.redirection_ends then ends t.environment (front fs) else goes t.environment (front fs) (nonzero a.status) ws)
+              else unless_ended e (front fs) status ws a t (goes t.environment (front fs) (status_behind t status a) (Compound n rest kind ∷ ws))))
           go true = failed a.redirection_ends
           go false =
               word_step d c defined SimpleAt base e fs status ws a s in_one (opened r) false (λ t. status_behind t status a) vs (next ∷ ws) live needs.redirects.0 h (Both (gaining (word_gains (opened r)) s))

@@ -298,9 +298,13 @@ pub record RedirectsAsExpected : Type 0 where
   pub assignment_done : values (x ∷ codes "s" ∷ []) (far 100 0 quiet (far 6 0 failing_first opens_behind)) ≡ just (codes "1") ∷ just (codes "1") ∷ []
   pub utility_fails : x_and_status failing (opens (map plain (codes "read" ∷ codes "-r" ∷ codes "x" ∷ [])) target ∷ notes ∷ []) ≡ None ∷ just (codes "1") ∷ []
   pub special_fails : x_and_status failing (opens (plain (codes ":") ∷ []) target ∷ notes ∷ []) ≡ None ∷ None ∷ []
-  -- `{ x=1; } >t` is not done, and may end; `f() { x=1; }; f >t` is not called, and may end
+  -- `{ x=1; } >t` is not done, and may end
   pub group_fails : x_and_status failing (opened (Group (list (one x ∷ []))) target ∷ notes ∷ []) ≡ None ∷ just (codes "1") ∷ []
   pub group_ends : x_and_status failing_ends (opened (Group (list (one x ∷ []))) target ∷ notes ∷ []) ≡ None ∷ None ∷ []
+  -- `{ x=1; } >"${y?}"`: the shell ends, or the redirection has failed
+  pub group_fault_ends : x_and_status quiet (opened (Group (list (one x ∷ []))) (demanded y) ∷ notes ∷ []) ≡ None ∷ None ∷ []
+  pub group_fault_fails : x_and_status failing (opened (Group (list (one x ∷ []))) (demanded y) ∷ notes ∷ []) ≡ None ∷ just (codes "1") ∷ []
+  -- `f() { x=1; }; f >t` is not called, and may end
   pub function_fails : x_and_status failing (function f (one x ∷ []) ∷ opens (plain f ∷ []) target ∷ notes ∷ []) ≡ None ∷ just (codes "1") ∷ []
   pub function_ends : x_and_status failing_ends (function f (one x ∷ []) ∷ opens (plain f ∷ []) target ∷ notes ∷ []) ≡ None ∷ None ∷ []
   -- `x="$y" >"${y=t}"`: the redirection first, or the assignment, which then meets y;

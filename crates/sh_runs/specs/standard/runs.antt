@@ -23,8 +23,8 @@ pub mod Work
 pub mod Builtins
 -- 2.6, 2.7 (redirection), 2.8 (errors), 2.9 (shell commands)
 pub mod Steps
--- 2.5.3 (the start), 2.9.2 (pipelines), 2.9.3.1 (asynchronous lists), 2.13 (processes and what they
--- share)
+-- 2.5.3, 3 (the start), 2.9.2 (pipelines), 2.9.3.1 (asynchronous lists), 2.13 (processes and what
+-- they share)
 pub mod Worlds
 -- 2.9.1.4, 2.15, 3 (which built-in utilities the steps speak of)
 pub mod Rows

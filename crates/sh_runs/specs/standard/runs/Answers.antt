@@ -67,19 +67,20 @@ pub record Answer : Type 0 where
   pub count : ℕ
   -- Choices
 
-  -- the parts of a pipeline that share the environment of their shell (XCU 2.9.2)
+  -- the parts of a pipeline that share the environment of their shell (XCU 2.13)
   pub shares : ℕ → Bool
   -- the prefix assignments that do not outlive a function (XCU 2.9.1.2)
   pub restores : ℕ → Bool
   -- an assignment comes before the redirections that are left (XCU 2.9.1.1); before a function or
   -- another utility all assignments do
   pub assignment_first : Bool
-  -- the redirection without a command name (XCU 2.9.1.3), of a function or of a utility is expanded
-  -- in a copy
+  -- The redirection is expanded in a copy: without a command name (XCU 2.9.1.3), and of a function
+  -- or a utility, of which the standard is silent.
   pub redirection_in_copy : Bool
-  -- the value of the prefix assignment is expanded in a copy (XCU 2.9.1.2)
+  -- the value of the prefix assignment of a function or a utility is expanded in a copy
+  -- (XCU 2.9.1.2 is silent)
   pub value_in_copy : Bool
-  -- the redirections of a subshell are expanded in its process (XCU 2.9.4)
+  -- the redirections of a subshell are expanded in its process (XCU 2.9.4.1 is silent)
   pub redirections_in_process : Bool
   -- the value of a prefix assignment before a utility sees the assignments before it (XCU 2.9.1.2)
   pub sees : Bool

@@ -118,7 +118,7 @@ reads prefixes e f ws a None = goes e f (nonzero a.status) ws
 reads prefixes e f ws a (Some names) = goes (read_into prefixes a 0 e names) f a.status ws
 
 -- `getopts` (XCU 3): its name and OPTIND get values as those of `read` do, and OPTARG is set or
--- not. Without a valid name an error may leave these as they are.
+-- not. Without a valid name OPTIND may also stay as it is.
 unfoldable pub gets_option : List Text → Environment → Answer → Option Text → Environment
 gets_option prefixes e a None = with_variable (given_to true e (codes "OPTIND") (a.values 1)) (codes "OPTARG") (a.values 2)
 gets_option prefixes e a (Some name) = with_variable (read_into prefixes a 0 e (name ∷ codes "OPTIND" ∷ [])) (codes "OPTARG") (a.values 2)

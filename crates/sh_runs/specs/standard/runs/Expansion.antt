@@ -170,8 +170,8 @@ module _ (f : Frame) (status : ℕ) where
   used c p g action.Alternative v true word text s = word s
   used c p g action.Alternative v false word text s = gives [] s
 
-  -- an expansion inside arithmetic (XCU 2.6.4): its text has to be an integer constant, or nothing
-  -- more is said of the run
+  -- an expansion inside arithmetic (XCU 2.6.4): unless its text is an integer constant, nothing more
+  -- is said of the run
   unfoldable pub constant_in : Outcome → State
   constant_in o = if o.state.ended || is_operand (pieces_text o.pieces) then o.state else stray o.state
 

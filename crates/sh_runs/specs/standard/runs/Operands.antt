@@ -1,6 +1,6 @@
 -- What built-in utilities read off their operands.
 -- POSIX.1-2024, XBD 12.2 (utility syntax guidelines), XCU 2.15 (export, readonly, set, shift,
--- return, break, unset, exec), 3 (read, getopts).
+-- return, break, continue, unset, exec), 3 (read, getopts).
 use Rattle.std.specs.Prelude.{ℕ, ◌+◌, ◌==◌, nat_lt, Bool, true, false, not, ◌&&◌, ◌||◌, if◌then◌else◌, List, [], ◌∷◌, ◌++◌, length, take, drop, filter, codes, Option, Some, None, option_and_then}
 use Rattle.std.specs.List.{list_all, filter_map}
 use Rattle.std.specs.Str.{bytes_eq}

@@ -94,7 +94,7 @@ next_preparation Nameless first rs xs = in_any_order first rs xs
 next_preparation (Special t ts) first rs xs = in_any_order first rs xs
 
 -- whether a redirection may be expanded in a copy: the standard says so without a command name
--- (XCU 2.9.1.3)
+-- (XCU 2.9.1.3) and is silent on utilities and functions
 unfoldable pub may_copy : Manner → Bool
 may_copy (Special t ts) = false
 may_copy _ = true
@@ -143,7 +143,7 @@ module _ (e : Environment) (f : Frame) (status : ℕ) (ws : List Work) (a : Answ
   negated_work true = Negation ∷ ws
   negated_work false = ws
 
-  -- the parts of a pipeline, each sharing or with copies (XCU 2.9.2)
+  -- the parts of a pipeline, each sharing or with copies (XCU 2.13)
   unfoldable pub parts : ℕ → p.Commands → List Start
   parts n p.no_commands = []
   parts n (p.more_commands c cs) = (if a.shares n then Shares (Command c ∷ []) else Copies (copied (a.carries n) e) (Command c ∷ [])) ∷ parts (suc n) cs
@@ -268,10 +268,12 @@ module _ (e : Environment) (f : Frame) (status : ℕ) (ws : List Work) (a : Answ
   unfoldable pub failed_before : Environment → Effect
   failed_before d = if a.redirection_ends then ends d f else goes d f (nonzero a.status) ws
 
-  -- a redirection of a compound command comes before it (XCU 2.9.4)
+  -- A redirection of a compound command comes before it (XCU 2.9.4). It may fail, also if its
+  -- expansion ends (XCU 2.8.1).
   unfoldable pub redirected_before : State → List Work → Effect
   redirected_before s next =
-      after_expansion s false (unless_ended s (if a.redirection_fails then failed_before s.environment else goes s.environment f (status_behind s status a) next))
+      after_expansion s false
+      (if a.redirection_fails then failed_before s.environment else unless_ended s (goes s.environment f (status_behind s status a) next))
 
   -- `for` over these fields; without one its status is zero (XCU 2.9.4.2)
   unfoldable pub over_fields : ℕ → Text → List Text → p.Items → Effect

@@ -1,6 +1,6 @@
 -- Processes, what they share, and runs.
 -- POSIX.1-2024, XCU 2.5.3 (shell variables), 2.6 (word expansions), 2.9 (shell commands), 2.13
--- (shell execution environment).
+-- (shell execution environment), 3 (getopts).
 use Rattle.std.specs.Prelude.{◌≡◌, ℕ, zero, suc, ◌≤◌, Bool, true, false, ◌||◌, ◌==◌, if◌then◌else◌, List, [], ◌∷◌, length, codes, Option, Some, None, is_some, unwrap_or, option_map, option_and_then}
 use Rattle.sh_tree.specs.standard.program.Syntax.{Text}
 use Rattle.sh_tree.specs.standard.program.Syntax as p
@@ -32,8 +32,7 @@ pub record World : Type 0 where
   pub next_environment : ℕ
   pub next_frame : ℕ
   pub next_process : ℕ
-  -- arithmetic met a value that is neither nothing nor an integer constant: nothing is said of what
-  -- comes then
+  -- arithmetic met a value that it cannot compute with: nothing is said of what comes then
   pub over : Bool
 
 -- the innermost frame
@@ -41,7 +40,8 @@ unfoldable pub innermost : (ℕ → Frame) → List ℕ → Frame
 innermost frames [] = []
 innermost frames (n ∷ ns) = frames n
 
--- Waiting: a shell goes on when the parts that share its environment have ended (XCU 2.9.2)
+-- Waiting: a shell goes on when the parts that share its environment have ended (XCU 2.13). By
+-- 2.9.2 it also waits for the last command, which no run relies on.
 
 -- the process is a part of p
 unfoldable pub is_part_of : ℕ → Option Process → Bool
@@ -171,11 +171,11 @@ start_world e f t =
       over = false;
     }
 
--- set at the start of every run (XCU 2.5.3)
+-- set at the start of every run (XCU 2.5.3, 3 getopts)
 abbrev pub start_names : List Text
 start_names = codes "IFS" ∷ codes "OPTIND" ∷ codes "PPID" ∷ []
 
--- What is allowed at the start (XCU 2.5.3). The declared names and those of every start are set,
+-- What is allowed at the start. The declared names and those of every start are set,
 -- IFS to space, tab and newline. No function is defined. There are at least so many positional
 -- parameters.
 pub record IsStart (names : List Text) (args : ℕ) (e : Environment) (f : Frame) : Type 0 where
