@@ -13,7 +13,7 @@ use Rattle.sh_tree.specs.standard.language.Bytes.{is_first, is_last_backquote, r
 use Rattle.sh_tree.specs.standard.language.Commands.{blanks}
 use Rattle.sh_tree.specs.standard.language.Reading.{ReadsScript}
 use Rattle.sh_tree.specs.standard.language.States.{Spot, deeper}
-use Rattle.sh_tree.specs.standard.language.Substitutions.{no_backquote, backquote_end, commands_text, closes, keeps_backslashes, has_kept_backslash}
+use Rattle.sh_tree.specs.standard.language.Substitutions.{no_backquote, backquote_end, commands_text, closes, removes_no_backslash, has_removed_backslash}
 use Rattle.sh_reads.proofs.MoveLemmas.{blanks_move}
 use Rattle.sh_copies.proofs.AlikeBytes.{by_bool, run_yes, run_no, run_inside}
 use Rattle.sh_copies.proofs.Copies.{Copied, limit_of, Place, Moved, ScriptsMove}
@@ -35,7 +35,7 @@ pub record FoundCommands (limit : ℕ) {b b' : List ℕ} (c : Copied b b') (styl
   pub to : Spot
   pub tree : Script
   pub place : Place c u.at to.at
-  pub keeps : keeps_backslashes style quoted b' e' ≡ true
+  pub keeps : removes_no_backslash style quoted b' e' ≡ true
   pub reads : ReadsScript limit (commands_text style b' e') (deeper (blanks s'.joins (commands_text style b' e') e') s') to tree
   pub closed : closes style (commands_text style b' e') to.at ≡ true
 
@@ -46,7 +46,7 @@ pub record FoundBetween (limit : ℕ) (b' : List ℕ) (quoted : Bool) (e e' : �
   pub by : ℕ
   pub at : u.at ≡ e + by
   pub at' : to.at ≡ e' + by
-  pub keeps : keeps_backslashes Backquote quoted b' e' ≡ true
+  pub keeps : removes_no_backslash Backquote quoted b' e' ≡ true
   pub reads : ReadsScript limit (commands_text Backquote b' e') (deeper (blanks s'.joins (commands_text Backquote b' e') e') s') to tree
   pub closed : closes Backquote (commands_text Backquote b' e') to.at ≡ true
 
@@ -133,7 +133,7 @@ module _ {limit n : ℕ} (scripts : ScriptsMove limit n) where
   parenthesis_move : {b b' : List ℕ} (c : Copied b b') {s s' u : Spot} {t : Script} {e e' : ℕ} (quoted : Bool) → Moved c s s' → Place c e e' → s.at ≤ e
       → ReadsScript limit b (deeper (blanks s.joins b e) s) u t → is_closed b u.at ≡ true → u.at + 1 < s.at + suc n → u.at ≤ limit_of c
       → FoundCommands limit c Paren quoted e' s' u
-  unfolding is_closed commands_text closes keeps_backslashes
+  unfolding is_closed commands_text closes removes_no_backslash
   parenthesis_move {b} {b'} c quoted m q f i h size within =
       let k = scripts.script c (moved_deeper c m q) i (omega arith) (omega arith) (inr h) in
       record { to = k.to; tree = k.tree; place = k.moved.place; keeps = refl; reads = k.reads; closed = near_first c (λ c. c == 41) k.moved.place within ∙ h }
@@ -141,10 +141,10 @@ module _ {limit n : ℕ} (scripts : ScriptsMove limit n) where
   -- between backquotes, whatever follows them
   pub backquotes_move : (b b' : List ℕ) (s s' : Spot) {u : Spot} {t : Script} (e e' : ℕ) (quoted : Bool) (w rest rest' : List ℕ) → drop e b ≡ w ++ rest → drop e' b' ≡ w ++ rest'
       → s'.depth ≡ s.depth → s'.joins ≡ s.joins → s'.tabs ≡ s.tabs → (s'.quiet ≡ true → s.quiet ≡ true) → s.at ≤ e
-      → keeps_backslashes Backquote quoted b e ≡ true → ReadsScript limit (commands_text Backquote b e) (deeper (blanks s.joins (commands_text Backquote b e) e) s) u t
+      → removes_no_backslash Backquote quoted b e ≡ true → ReadsScript limit (commands_text Backquote b e) (deeper (blanks s.joins (commands_text Backquote b e) e) s) u t
       → closes Backquote (commands_text Backquote b e) u.at ≡ true → u.at + 1 < s.at + suc n → u.at + 1 ≤ e + length w
       → FoundBetween limit b' quoted e e' s' u
-  unfolding commands_text closes keeps_backslashes
+  unfolding commands_text closes removes_no_backslash
   backquotes_move b b' s s' {u} e e' quoted w rest rest' there here depth joins tabs quiet f k i h size within =
       let forward = script_forward i in
       let blank = blanks_move s.joins (take (backquote_end b e) b) e in
@@ -161,16 +161,16 @@ module _ {limit n : ℕ} (scripts : ScriptsMove limit n) where
         by = found.moved.place.by;
         at = found.moved.place.at;
         at' = found.moved.place.at';
-        keeps = ap (λ t. not (has_kept_backslash quoted t)) (text.here ∙ sym text.there) ∙ k;
+        keeps = ap (λ t. not (has_removed_backslash quoted t)) (text.here ∙ sym text.there) ∙ k;
         reads = found.reads;
         closed = ap is_last_backquote (l.here ∙ sym l.there) ∙ h;
       }
 
   pub commands_move : {b b' : List ℕ} (c : Copied b b') {s s' u : Spot} {t : Script} {e e' : ℕ} (style : CommandStyle) (quoted : Bool) → Moved c s s' → Place c e e' → s.at ≤ e
-      → keeps_backslashes style quoted b e ≡ true → ReadsScript limit (commands_text style b e) (deeper (blanks s.joins (commands_text style b e) e) s) u t
+      → removes_no_backslash style quoted b e ≡ true → ReadsScript limit (commands_text style b e) (deeper (blanks s.joins (commands_text style b e) e) s) u t
       → closes style (commands_text style b e) u.at ≡ true → u.at + 1 < s.at + suc n → u.at + 1 ≤ limit_of c + closing (sign.Substitution style)
       → FoundCommands limit c style quoted e' s' u
-  unfolding commands_text closes keeps_backslashes
+  unfolding commands_text closes removes_no_backslash
   commands_move c Paren quoted m q f k i h size within = parenthesis_move c quoted m q f i h size (omega arith)
   commands_move {b} {b'} c {s} {s'} {u} {e = e} {e' = e'} Backquote quoted m q f k i h size within =
       let l = left c q (let forward = script_forward i in let blank = blanks_move s.joins (take (backquote_end b e) b) e in omega arith) in

@@ -16,7 +16,7 @@ use Rattle.sh_tree.specs.standard.language.Reading as r
 use Rattle.sh_tree.specs.standard.language.Reading.{ReadsSequence}
 use Rattle.sh_tree.specs.standard.language.States as states
 use Rattle.sh_tree.specs.standard.language.States.{Spot, document_count, nth, waits, within}
-use Rattle.sh_tree.specs.standard.language.Substitutions.{backquote_end, closes, commands_text, has_kept_backslash, keeps_backslashes, no_backquote}
+use Rattle.sh_tree.specs.standard.language.Substitutions.{backquote_end, closes, commands_text, has_removed_backslash, removes_no_backslash, no_backquote}
 use Rattle.sh_scan.specs.Backquotes.{IsFirstKept}
 use Rattle.sh_words.proofs.EndLemmas.{closes_inside}
 use Rattle.sh_words.proofs.OperationLemmas.{closed_inside}
@@ -172,7 +172,7 @@ closed_after b i j after close =
 module _ (b : List ℕ) (quoted : Bool) (i n : ℕ) (ticks : Ticks) (s : State) where
   -- the commands of `$(`
   pub paren_hands : (r : Result (Script × State) Refusal) → Answers b (ClosedFrom Paren b (substituted b i n ticks s)) i r → Hands b Paren quoted i n s r
-  unfolding commands_text keeps_backslashes closes
+  unfolding commands_text removes_no_backslash closes
   paren_hands (Ok r) h = record {
     one = record { reads = (refl, h.one.reads); only = λ limit k y l. h.one.only limit k y l.1 };
     from = h.from;
@@ -208,12 +208,12 @@ module _ (b : List ℕ) (quoted : Bool) (i n : ℕ) (ticks : Ticks) (s : State) 
         (refused_in closed_front front b e (front_within end b) h)
 
     -- no backslash goes before they are read
-    pub front_hands : (r : Result (Script × State) Refusal) → has_kept_backslash quoted (drop i front) ≡ false → Answers front closed_front i r → Hands b Backquote quoted i n s r
-    unfolding commands_text keeps_backslashes
+    pub front_hands : (r : Result (Script × State) Refusal) → has_removed_backslash quoted (drop i front) ≡ false → Answers front closed_front i r → Hands b Backquote quoted i n s r
+    unfolding commands_text removes_no_backslash
     front_hands (Ok r) none h = record {
       one = record {
         reads = (
-          ap (λ j. not (has_kept_backslash quoted (drop i (take j b)))) (sym is) ∙ ap not none,
+          ap (λ j. not (has_removed_backslash quoted (drop i (take j b)))) (sym is) ∙ ap not none,
           subst (λ j. ClosedFrom Backquote (take j b) (substituted (take j b) i n s.ticks s) 64 (here r.1) r.0) is h.one.reads,
         );
         only = λ limit k y l. h.one.only limit k y (in_front limit k y l);
@@ -225,11 +225,11 @@ module _ (b : List ℕ) (quoted : Bool) (i n : ℕ) (ticks : Ticks) (s : State) 
     front_hands (Err e) none h = front_refused e h
 
     -- one does
-    kept_nothing : has_kept_backslash quoted (drop i front) ≡ true → Nothing (AskedFrom b Backquote quoted i n s)
-    unfolding commands_text keeps_backslashes
-    kept_nothing some limit k y l = true≢false (sym l.0 ∙ ap (λ j. not (has_kept_backslash quoted (drop i (take j b)))) (sym is) ∙ ap not some)
+    kept_nothing : has_removed_backslash quoted (drop i front) ≡ true → Nothing (AskedFrom b Backquote quoted i n s)
+    unfolding commands_text removes_no_backslash
+    kept_nothing some limit k y l = true≢false (sym l.0 ∙ ap (λ j. not (has_removed_backslash quoted (drop i (take j b)))) (sym is) ∙ ap not some)
 
-    pub kept_hands : (r : Result (Script × State) Refusal) (at : ℕ) → has_kept_backslash quoted (drop i front) ≡ true → at < length b → Answers front closed_front i r
+    pub kept_hands : (r : Result (Script × State) Refusal) (at : ℕ) → has_removed_backslash quoted (drop i front) ≡ true → at < length b → Answers front closed_front i r
         → Hands b Backquote quoted i n s (Err (first_told r at))
     unfolding first_told
     kept_hands (Ok r) at some inside h = (inside, kept_nothing some)
@@ -259,12 +259,12 @@ module _ (b : List ℕ) (quoted : Bool) (i n : ℕ) (s : State) (r : Result (Scr
       told_by r h (λ e t. (λ far. absurd (not-le_of_lt far (subst (λ k. k ≤ length b) is within)), λ near. subst (λ k. TellsBackquoted (take k b) quoted i n s e) is t))
 
   -- no backslash goes before they are read, in the text that ends with what closes them
-  pub plain_told : has_kept_backslash quoted (drop i b) ≡ false → IfErr r (TellsClosed b Backquote (opened Backquote i) (substituted b i n (Here quoted) s))
+  pub plain_told : has_removed_backslash quoted (drop i b) ≡ false → IfErr r (TellsClosed b Backquote (opened Backquote i) (substituted b i n (Here quoted) s))
       → IfErr r (TellsBackquoted b quoted i n s)
   plain_told none h = told_by r h (λ e t. record { plain = λ _. t; kept = λ some. absurd (true≢false (sym some ∙ none)) })
 
   -- one does
-  pub kept_told : (k : ℕ) → has_kept_backslash quoted (drop i b) ≡ true → IsFirstKept quoted (drop i b) k → AnswersLevel b Backquote i n (Here quoted) s r
+  pub kept_told : (k : ℕ) → has_removed_backslash quoted (drop i b) ≡ true → IsFirstKept quoted (drop i b) k → AnswersLevel b Backquote i n (Here quoted) s r
       → TellsBackquoted b quoted i n s (first_told r (i + k))
   kept_told k some first h = record {
     plain = λ none. absurd (true≢false (sym some ∙ none));

@@ -17,7 +17,7 @@ use Rattle.sh_tree.specs.standard.language.Reading as r
 use Rattle.sh_tree.specs.standard.language.Reading.{ReadsParts, ReadsPart, ReadsScript, ReadsWord, is_some}
 use Rattle.sh_tree.specs.standard.language.States as states
 use Rattle.sh_tree.specs.standard.language.States.{Spot, past, waits, within}
-use Rattle.sh_tree.specs.standard.language.Substitutions.{commands_text, closes, keeps_backslashes}
+use Rattle.sh_tree.specs.standard.language.Substitutions.{commands_text, closes, removes_no_backslash}
 use Rattle.sh_tree.specs.standard.language.Trees.{word}
 use Rattle.sh_tree.specs.standard.language.Words.{token}
 use Rattle.sh_tree.proofs.Inversions.{word_parts}
@@ -218,7 +218,7 @@ module _ (b : List ℕ) (m : Mode) (all : seen b m ≡ b) (i : ℕ) (s v : State
       asked_at = ap (λ q. record (commands_spot b (around v) style at depth) { quiet = q }) (sym (waiting_is v.outer v.pending))
 
       -- the commands that it asks for, as what closes
-      closed_here : {limit : ℕ} {u : Spot} {t : Script} → keeps_backslashes style quoted b at ≡ true
+      closed_here : {limit : ℕ} {u : Spot} {t : Script} → removes_no_backslash style quoted b at ≡ true
           → ReadsScript limit (commands_text style b at) (commands_spot b (around v) style at depth) u t → closes style (commands_text style b at) u.at ≡ true → asked_here limit (within u) t
       closed_here {limit = limit} {u = u} {t = t} keeps h close = (keeps, (subst (λ x. ReadsScript limit (commands_text style b at) x u t) asked_at h, close, refl))
 

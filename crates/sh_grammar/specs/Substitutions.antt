@@ -12,7 +12,7 @@ use Rattle.sh_tree.specs.declared.tree.Script.{Script}
 use Rattle.sh_tree.specs.standard.language.Commands.{lead_at}
 use Rattle.sh_tree.specs.standard.language.Reading.{ReadsScript}
 use Rattle.sh_tree.specs.standard.language.States.{within}
-use Rattle.sh_tree.specs.standard.language.Substitutions.{backquote_end, commands_text, closes, has_kept_backslash, keeps_backslashes}
+use Rattle.sh_tree.specs.standard.language.Substitutions.{backquote_end, commands_text, closes, has_removed_backslash, removes_no_backslash}
 use Rattle.sh_scan.specs.Backquotes.{IsFirstKept}
 use Rattle.sh_grammar.specs.declared.state.State.{State}
 use Rattle.sh_grammar.specs.declared.ticks.Ticks.{Ticks}
@@ -63,7 +63,7 @@ TellsClosed b style i s e = Refused b (SequenceFrom b s) e ⊎ TellsEnd b style 
 -- they are read in. There n levels are open.
 abbrev pub AskedFrom : List ℕ → CommandStyle → Bool → ℕ → ℕ → State → Reading Script
 AskedFrom b style quoted i n s limit v t =
-    (keeps_backslashes style quoted b i ≡ true) × ClosedFrom style (commands_text style b i) (substituted (commands_text style b i) i n s.ticks s) limit v t
+    (removes_no_backslash style quoted b i ≡ true) × ClosedFrom style (commands_text style b i) (substituted (commands_text style b i) i n s.ticks s) limit v t
 
 -- t are these commands, up to v, and no others are
 pub record Handed (b : List ℕ) (style : CommandStyle) (quoted : Bool) (i n : ℕ) (s : State) (t : Script) (v : State) : Type 0 where
@@ -110,8 +110,8 @@ pub record TellsKept (b : List ℕ) (quoted : Bool) (i n : ℕ) (s : State) (e :
 
 -- what is reported of commands in the text that ends with the backquote that closes them
 pub record TellsBackquoted (b : List ℕ) (quoted : Bool) (i n : ℕ) (s : State) (e : Refusal) : Type 0 where
-  pub plain : has_kept_backslash quoted (drop i b) ≡ false → TellsClosed b Backquote (opened Backquote i) (substituted b i n (Here quoted) s) e
-  pub kept : has_kept_backslash quoted (drop i b) ≡ true → TellsKept b quoted i n s e
+  pub plain : has_removed_backslash quoted (drop i b) ≡ false → TellsClosed b Backquote (opened Backquote i) (substituted b i n (Here quoted) s) e
+  pub kept : has_removed_backslash quoted (drop i b) ≡ true → TellsKept b quoted i n s e
 
 -- what is reported of the commands of the substitution of the style in a word at s
 abbrev pub TellsHanded : List ℕ → CommandStyle → Bool → ℕ → ℕ → State → Refusal → Type 0

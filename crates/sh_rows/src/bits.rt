@@ -12,7 +12,7 @@ use std::alloc::{AllocError, Global};
 /// A row as bits. Number n is bit n modulo 64 of word n divided by 64, and the bits past the last
 /// number are zero.
 ///
-/// Adding takes no memory: the words are there from the start, one for 64 numbers.
+/// The words are there from the start, one for 64 numbers.
 #[derive(Debug, PartialEq, Eq, Hash, Drop)]
 pub struct BitRow {
     words: Vec<u64>,

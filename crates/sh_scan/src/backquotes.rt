@@ -53,7 +53,7 @@ fn is_kept_first(quoted: bool, rest: &[u8]) -> bool
 /// are read. Whether these are in double quotes decides which do.
 pub fn kept_backslash(text: &[u8], quoted: bool) -> Option<u32>
     requires small { length text.now ≤ MAX_SCRIPT }
-    ensures value { is_some result ≡ substitutions.has_kept_backslash quoted text.now }
+    ensures value { is_some result ≡ substitutions.has_removed_backslash quoted text.now }
     ensures within { IfSome result (λ place. place < length text.now) }
     ensures first { IfSome result (IsFirstKept quoted text.now) }
 {

@@ -29,7 +29,7 @@ use Rattle.sh_tree.specs.declared.token.command.Redirection.{Redirection}
 use Rattle.sh_tree.specs.declared.token.command.Reserved.TheVariants as reserved
 use Rattle.sh_tree.specs.declared.token.command.Stage.{Stage}
 use Rattle.sh_tree.specs.declared.token.command.Stage.TheVariants.{First, Prefixed, Named}
-use Rattle.sh_tree.specs.standard.language.Substitutions.{commands_text, closes, keeps_backslashes}
+use Rattle.sh_tree.specs.standard.language.Substitutions.{commands_text, closes, removes_no_backslash}
 use Rattle.sh_tree.specs.standard.language.Words.{is_quoted, in_double, in_use, in_removal, in_arithmetic}
 use Rattle.sh_tree.specs.standard.language.Arithmetic.{is_closed, unary_of}
 use Rattle.sh_tree.specs.standard.language.Commands.{blanks, lead_at, redirection, redirects, direction_of, strip_of, is_word, is_redirection, is_reserved, is_bar, is_newline_lead, begins_simple, begins_compound, begins_command, begins_pipeline, separator, link_of}
@@ -69,7 +69,7 @@ module _ (limit : ℕ) (b : List ℕ) where
   PartIs x (sign.Substitution style) s e v p =
       (u : Spot) × (t : Script) × (v ≡ behind (u.at + 1) u s) × (p ≡ part.Command style (span s.at (u.at + 1)) t) × (s.depth < limit)
       × ReadsScript limit (commands_text style b e) (deeper (blanks s.joins (commands_text style b e) e) s) u t × (closes style (commands_text style b e) u.at ≡ true)
-      × (keeps_backslashes style (is_quoted x.site) b e ≡ true)
+      × (removes_no_backslash style (is_quoted x.site) b e ≡ true)
   PartIs x sign.Arith s e v p =
       (u : Spot) × (a : Expr) × (v ≡ behind ((over b u).at + 1) u s) × (p ≡ part.Arith (span s.at ((over b u).at + 1)) a) × (s.depth < limit)
       × ReadsExpression limit b (in_arithmetic x) (deeper e s) u a × (figure_at b u ≡ figure.Close) × (is_closed b (over b u).at ≡ true)

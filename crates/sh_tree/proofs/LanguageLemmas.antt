@@ -45,7 +45,7 @@ use Rattle.sh_tree.specs.examples.Language.{plain, bare, value, simple, ticked_t
 
 -- what a reading of a known text computes
 unfoldable pub computes : Unit {0}
-unfolding bytes.is_first bytes.is_last_backquote words.backquoted words.dollar_quoted substitutions.commands_text substitutions.closes substitutions.keeps_backslashes substitutions.has_kept_backslash bytes.name_length bytes.decimal bytes.longest bytes.joined_length words.tilde_length words.is_tilde words.special_of words.named_value words.single_parameter words.parenthesis words.numeric_parameter words.parameter words.misfit words.action_of words.pattern_removal words.parameter_action words.parameter_operator words.parameter_length words.special_or_length words.braced_expansion words.dollar_expansion words.dollar words.stands words.plain_length words.continuation words.backslash words.single words.meant_by words.sign_by words.sign_of words.token arithmetic.space_length arithmetic.constant_length arithmetic.name_figure arithmetic.unknown arithmetic.figure_of arithmetic.lexeme_start arithmetic.lexeme arithmetic.binary_of arithmetic.unary_of arithmetic.assignment_of arithmetic.is_closed commands.gap_length commands.blank_length commands.blanks commands.operator_of commands.operator commands.is_split commands.direction_of commands.strip_of commands.redirects commands.bare_word commands.entry_of commands.is_assignment commands.name_end commands.declares commands.is_location commands.opening commands.whole_operator commands.operator_lead commands.reserved_lead commands.is_definition commands.name_lead commands.first_lead commands.word_lead commands.number_lead commands.other_lead commands.lead_of commands.lead_at commands.redirection commands.is_redirection commands.begins_simple commands.begins_compound commands.begins_command commands.begins_pipeline commands.clause_end_of commands.is_bare_name commands.separator commands.link_of documents.line_length documents.line_end documents.line_text documents.end_candidate documents.end_line_within documents.end_line documents.has_tabbed_line documents.has_joined contexts.in_operand contexts.in_document_of contexts.in_stage documents.is_static documents.is_dollar_quoted documents.is_delimiter documents.delimiter_of parts.is_quotation parts.is_quoted_word parts.singles_in parts.singles parts.keeps_lines documents.keeps_document states.nth states.waits r.is_empty r.is_some parts_text part_text shape-the_row-Part-0 hidden-the_row-Part-0 denote.Hole.Carrier.hidden
+unfolding bytes.is_first bytes.is_last_backquote words.backquoted words.dollar_quoted substitutions.commands_text substitutions.closes substitutions.removes_no_backslash substitutions.has_removed_backslash bytes.name_length bytes.decimal bytes.longest bytes.joined_length words.tilde_length words.is_tilde words.special_of words.named_value words.single_parameter words.parenthesis words.numeric_parameter words.parameter words.misfit words.action_of words.pattern_removal words.parameter_action words.parameter_operator words.parameter_length words.special_or_length words.braced_expansion words.dollar_expansion words.dollar words.stands words.plain_length words.continuation words.backslash words.single words.meant_by words.sign_by words.sign_of words.token arithmetic.space_length arithmetic.constant_length arithmetic.name_figure arithmetic.unknown arithmetic.figure_of arithmetic.lexeme_start arithmetic.lexeme arithmetic.binary_of arithmetic.unary_of arithmetic.assignment_of arithmetic.is_closed commands.gap_length commands.blank_length commands.blanks commands.operator_of commands.operator commands.is_split commands.direction_of commands.strip_of commands.redirects commands.bare_word commands.entry_of commands.is_assignment commands.name_end commands.declares commands.is_location commands.opening commands.whole_operator commands.operator_lead commands.reserved_lead commands.is_definition commands.name_lead commands.first_lead commands.word_lead commands.number_lead commands.other_lead commands.lead_of commands.lead_at commands.redirection commands.is_redirection commands.begins_simple commands.begins_compound commands.begins_command commands.begins_pipeline commands.clause_end_of commands.is_bare_name commands.separator commands.link_of documents.line_length documents.line_end documents.line_text documents.end_candidate documents.end_line_within documents.end_line documents.has_tabbed_line documents.has_joined contexts.in_operand contexts.in_document_of contexts.in_stage documents.is_static documents.is_dollar_quoted documents.is_delimiter documents.delimiter_of parts.is_quotation parts.is_quoted_word parts.singles_in parts.singles parts.keeps_lines documents.keeps_document states.nth states.waits r.is_empty r.is_some parts_text part_text shape-the_row-Part-0 hidden-the_row-Part-0 denote.Hole.Carrier.hidden
 computes = tt
 
 -- a text with this sequence is its script

@@ -9,7 +9,7 @@ use Rattle.sh_tree.specs.declared.refusal.Refusal.TheVariants.{TooLong, NulByte,
 use Rattle.sh_tree.specs.standard.language.Commands.{blanks}
 use Rattle.sh_tree.specs.standard.language.Reading.{ReadsScript}
 use Rattle.sh_tree.specs.standard.language.States.{Spot}
-use Rattle.sh_tree.specs.standard.language.Substitutions.{commands_text, closes, keeps_backslashes}
+use Rattle.sh_tree.specs.standard.language.Substitutions.{commands_text, closes, removes_no_backslash}
 use Rattle.sh_tree.specs.standard.language.Trees.{word}
 use Rattle.sh_words.specs.declared.builder.WordBuilder.{WordBuilder}
 use Rattle.sh_words.specs.declared.builder.Next.{Next}
@@ -42,10 +42,10 @@ commands_spot b g style at depth = spot g depth (blanks g.body (commands_text st
 pub record Asks (b : List ℕ) (old : Leftover) (new : WordBuilder) (start at depth : ℕ) (style : CommandStyle) (quoted : Bool) : Type 0 where
   pub forth : (limit : ℕ) (g : Around) (u : Spot) (ps : List Part) → old limit g u ps
       → (v : Spot) × (s : Script) × (depth ≤ limit) × ReadsScript limit (commands_text style b at) (commands_spot b g style at depth) v s
-      × (closes style (commands_text style b at) v.at ≡ true) × (keeps_backslashes style quoted b at ≡ true)
+      × (closes style (commands_text style b at) v.at ≡ true) × (removes_no_backslash style quoted b at ≡ true)
       × Left b (fed new start style s (v.at + 1)) limit (after_commands g v) u ps
   pub back : (g : Around) (u : Spot) (ps : List Part) (v : Spot) (s : Script) → ReadsScript 64 (commands_text style b at) (commands_spot b g style at depth) v s
-      → closes style (commands_text style b at) v.at ≡ true → keeps_backslashes style quoted b at ≡ true
+      → closes style (commands_text style b at) v.at ≡ true → removes_no_backslash style quoted b at ≡ true
       → Left b (fed new start style s (v.at + 1)) 64 (after_commands g v) u ps → old 64 g u ps
 
 -- no word is left, at any limit

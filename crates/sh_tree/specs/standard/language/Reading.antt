@@ -49,7 +49,7 @@ use Rattle.sh_tree.specs.declared.token.command.Stage.TheVariants.{First, Prefix
 use Rattle.sh_tree.specs.declared.token.command.Lead.{Lead}
 use Rattle.sh_tree.specs.declared.token.command.Lead.TheVariants as lead
 use Rattle.sh_tree.specs.standard.language.Words.{token, is_quoted, in_double, in_use, in_removal, in_arithmetic}
-use Rattle.sh_tree.specs.standard.language.Substitutions.{commands_text, closes, keeps_backslashes}
+use Rattle.sh_tree.specs.standard.language.Substitutions.{commands_text, closes, removes_no_backslash}
 use Rattle.sh_tree.specs.standard.language.Arithmetic.{lexeme, is_closed, binary_of, unary_of, assignment_of, unary_level}
 use Rattle.sh_tree.specs.standard.language.Commands.{lead_at, blanks, name_end, declares, redirection, direction_of, strip_of, is_location, is_word, is_redirection, is_reserved, begins_simple, begins_compound, begins_command, begins_pipeline, separator, link_of, clause_end_of, is_bar, is_newline_lead, is_esac, is_open, is_bare_name}
 use Rattle.sh_tree.specs.standard.language.Contexts.{in_word, in_unsplit, in_value, in_stage, in_document_of}
@@ -216,7 +216,7 @@ module _ (limit : ℕ) where
           → ReadsPart b x sign.Arith s e (behind ((over b u).at + 1) u s) (part.Arith (span s.at ((over b u).at + 1)) a)
       -- $( script ), or ` script ` in a text that ends with its closing backquote (XCU 2.6.3)
       substitution : {b : List ℕ} {x : Context} {s u : Spot} {e : ℕ} {style : CommandStyle} {t : Script}
-          → s.depth < limit → keeps_backslashes style (is_quoted x.site) b e ≡ true
+          → s.depth < limit → removes_no_backslash style (is_quoted x.site) b e ≡ true
           → ReadsScript (commands_text style b e) (deeper (blanks s.joins (commands_text style b e) e) s) u t → closes style (commands_text style b e) u.at ≡ true
           → ReadsPart b x (sign.Substitution style) s e (behind (u.at + 1) u s) (part.Command style (span s.at (u.at + 1)) t)
 

@@ -27,11 +27,11 @@ closes Backquote b i = is_last_backquote (drop i b)
 
 -- A backslash that is removed before the commands are read (XCU 2.6.3): before `$`, a backquote or
 -- a backslash. In double quotes it is any, as in shells.
-unfoldable pub has_kept_backslash : Bool → List ℕ → Bool
-has_kept_backslash quoted [] = false
-has_kept_backslash quoted (c ∷ cs) = (is_backslash c && (quoted || is_first (is_in (codes "$`\\")) cs)) || has_kept_backslash quoted cs
+unfoldable pub has_removed_backslash : Bool → List ℕ → Bool
+has_removed_backslash quoted [] = false
+has_removed_backslash quoted (c ∷ cs) = (is_backslash c && (quoted || is_first (is_in (codes "$`\\")) cs)) || has_removed_backslash quoted cs
 
 -- the commands from e on have no such backslash: others are refused
-unfoldable pub keeps_backslashes : CommandStyle → Bool → List ℕ → ℕ → Bool
-keeps_backslashes Paren quoted b e = true
-keeps_backslashes Backquote quoted b e = not (has_kept_backslash quoted (drop e (commands_text Backquote b e)))
+unfoldable pub removes_no_backslash : CommandStyle → Bool → List ℕ → ℕ → Bool
+removes_no_backslash Paren quoted b e = true
+removes_no_backslash Backquote quoted b e = not (has_removed_backslash quoted (drop e (commands_text Backquote b e)))

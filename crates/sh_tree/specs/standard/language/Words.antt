@@ -97,8 +97,9 @@ is_tilde x prior i c cs = c == byte.tilde && may_be_tilde x prior i && not (tild
 
 -- What a `$` begins (XCU 2.6)
 
--- The byte after a `$` makes it more than a literal one. Before other bytes the standard leaves
--- open what it is.
+-- The byte after a `$` makes it more than a literal one. The standard says what `$` is before a
+-- blank, a newline and the end, and leaves it open before other bytes: there it is read as literal,
+-- as in shells.
 abbrev pub opens_dollar : Bool → ℕ → Bool
 opens_dollar quoted c = is_name_byte c || is_in (codes "@*#?-$!{([") c || (not quoted && is_in (codes "'\"") c)
 
