@@ -1,5 +1,6 @@
 -- What is reported at the end of a text, and where here-documents wait.
-use Rattle.std.proofs.Common.{◌≡◌, ◌<◌, ◌≤◌, ℕ, false, List, [], ◌∷◌, drop, length, Some, None, refl, sym, ap, subst, ◌∙◌, le_refl, lt_of_lt_of_le, true≢false, arith}
+use Rattle.std.proofs.Common.{◌≡◌, ◌<◌, ◌≤◌, ℕ, List, [], ◌∷◌, drop, length, Some, None, refl, sym, ap, subst, ◌∙◌, lt_of_lt_of_le, arith}
+use Rattle.std.specs.Prelude.{◌+◌, true, unwrap_or}
 use Rattle.sh_tree.specs.declared.refusal.Fault.{Fault}
 use Rattle.sh_tree.specs.declared.refusal.Fault.TheVariants as fault
 use Rattle.sh_tree.specs.declared.refusal.Form.{Form}
@@ -10,8 +11,8 @@ use Rattle.sh_tree.specs.declared.token.command.Lead.{Lead}
 use Rattle.sh_tree.specs.declared.token.command.Lead.TheVariants as lead
 use Rattle.sh_grammar.specs.declared.mark.Mark.{Mark}
 use Rattle.sh_grammar.specs.declared.state.State.{State}
-use Rattle.sh_tree.specs.standard.language.HereDocuments.{is_split_text}
 use Rattle.sh_grammar.specs.Faults.{IsFault, IsPlace, Tells, TellsAt, ended, ended_by}
+use Rattle.sh_grammar.specs.Lines.{first_joined}
 use Rattle.sh_grammar.specs.States.{AreBefore, Stands, waiting}
 use Rattle.sh_grammar.specs.Ticks.{misplaced, overrun}
 use Rattle.sh_grammar.specs.declared.ticks.Ticks.{Ticks}
@@ -64,6 +65,12 @@ tells_inside b lead.End s e none h = absurd (none refl)
 tells_inside b lead.Backquote s e none h = (s.ticks, h)
 tells_inside b _ s e none h = h
 
--- if there is no line continuation from the token's beginning on, the form is reported there
-pub no_continuation : (b : List ℕ) (f : Form) (i : ℕ) → f ≡ form.Continuation → i < length b → false ≡ is_split_text (drop i b) → IsPlace b f i i
-no_continuation b f i is lt none = subst (λ g. IsPlace b g i i) (sym is) (le_refl i, lt, λ split. absurd (true≢false (sym split ∙ sym none)))
+-- where the first line continuation is from the token's beginning on, the form is reported
+pub continuation_at : (b : List ℕ) (f : Form) (i n : ℕ) → f ≡ form.Continuation → Some n ≡ first_joined (λ rest. true) (drop i b) → IsPlace b f i (i + n)
+continuation_at b f i n is found = subst (λ g. IsPlace b g i (i + n)) (sym is) (ap (λ o. i + unwrap_or o 0) found)
+
+-- if there is none, it is reported at the token
+pub no_continuation : (b : List ℕ) (f : Form) (i : ℕ) → f ≡ form.Continuation → None ≡ first_joined (λ rest. true) (drop i b) → IsPlace b f i i
+no_continuation b f i is none =
+    let here : i ≡ i + 0 = omega arith in
+    subst (λ g. IsPlace b g i i) (sym is) (here ∙ ap (λ o. i + unwrap_or o 0) none)

@@ -1,6 +1,6 @@
 -- What is reported of a token that has no place.
 -- POSIX.1-2024, XCU 2.10 (shell grammar).
-use Rattle.std.specs.Prelude.{◌≡◌, ℕ, ◌<◌, ◌≤◌, Bool, true, false, List, [], ◌∷◌, drop, length, Option, Some, None, Result, Ok, Err}
+use Rattle.std.specs.Prelude.{◌≡◌, ℕ, ◌+◌, ◌<◌, ◌≤◌, Bool, true, false, List, [], ◌∷◌, drop, length, Option, Some, None, unwrap_or, Result, Ok, Err}
 use Rattle.sh_tree.specs.declared.limits.TheConstants.{MAX_COMMANDS, MAX_NESTING}
 use Rattle.sh_tree.specs.declared.refusal.Fault.{Fault}
 use Rattle.sh_tree.specs.declared.refusal.Fault.TheVariants as fault
@@ -14,13 +14,12 @@ use Rattle.sh_tree.specs.declared.token.command.Lead.{Lead}
 use Rattle.sh_tree.specs.declared.token.command.Lead.TheVariants as lead
 use Rattle.sh_tree.specs.declared.tree.Script.{Script}
 use Rattle.sh_tree.specs.standard.language.Commands.{lead_at}
-use Rattle.sh_tree.specs.standard.language.HereDocuments.{is_split_text}
 use Rattle.sh_tree.specs.standard.language.Reading.{ReadsSequence, ReadsTo}
 use Rattle.sh_tree.specs.standard.language.States as states
 use Rattle.sh_tree.specs.standard.language.States.{Document, waits}
 use Rattle.sh_grammar.specs.declared.mark.Mark.{Mark}
 use Rattle.sh_grammar.specs.declared.state.State.{State}
-use Rattle.sh_grammar.specs.Lines.{is_joined}
+use Rattle.sh_grammar.specs.Lines.{first_joined}
 use Rattle.sh_grammar.specs.States.{here, first_of}
 use Rattle.sh_grammar.specs.Ticks.{misplaced, overrun}
 use Rattle.sh_grammar.specs.declared.ticks.Ticks.{Ticks}
@@ -31,10 +30,10 @@ IsFault b (Syntax f at) = at ≤ length b
 IsFault b (LeftOut f at) = at < length b
 IsFault b _ = ⊥
 
--- Where the refused form is reported that the token at i is: at a line continuation after the
--- token's first bytes, if there is one.
+-- Where the refused form is reported that the token at i is. A line continuation is reported at its
+-- backslash, the first from the token's beginning on.
 abbrev pub IsPlace : List ℕ → Form → ℕ → ℕ → Type 0
-IsPlace b form.Continuation i at = (i ≤ at) × (at < length b) × (is_split_text (drop i b) ≡ true → is_joined false (drop at b) ≡ true)
+IsPlace b form.Continuation i at = at ≡ i + unwrap_or (first_joined (λ rest. true) (drop i b)) 0
 IsPlace b _ i at = at ≡ i
 
 -- What is reported of the token at i, which has no place there. For a backquote that depends on

@@ -1,6 +1,6 @@
 -- Clauses of private functions: the lines of here-documents, piece by piece.
 -- POSIX.1-2024, XCU 2.2.1 (line continuation), 2.7.4 (here-document).
-use Rattle.std.specs.Prelude.{ℕ, Bool, false, not, ◌&&◌, ◌||◌, if◌then◌else◌, List, [], ◌∷◌, drop}
+use Rattle.std.specs.Prelude.{ℕ, ◌+◌, Bool, false, not, ◌&&◌, ◌||◌, if◌then◌else◌, List, [], ◌∷◌, drop, Option, Some, None, option_map}
 use Rattle.std.specs.Str.{bytes_eq}
 use Rattle.sh_tree.specs.standard.language.Bytes.{is_newline, is_tab, is_backslash, run, is_first}
 use Rattle.sh_tree.specs.standard.language.HereDocuments.{Mark, line_text}
@@ -46,3 +46,11 @@ unfoldable pub is_joined : Bool → List ℕ → Bool
 is_joined tabbed [] = false
 is_joined tabbed (c ∷ []) = false
 is_joined tabbed (c ∷ d ∷ cs) = is_backslash c && (is_newline d && (not tabbed || is_first is_tab cs))
+
+-- where the first line continuation begins of whose rest p holds
+unfoldable pub first_joined : (List ℕ → Bool) → List ℕ → Option ℕ
+first_joined p [] = None
+first_joined p (c ∷ []) = None
+first_joined p (c ∷ d ∷ cs) =
+    if is_backslash c then (if is_newline d && p cs then Some 0 else option_map (λ n. n + 2) (first_joined p cs))
+    else option_map (λ n. n + 1) (first_joined p (d ∷ cs))

@@ -51,6 +51,7 @@ fn is_joined(rest: &[u8], tabbed: bool) -> bool
 pub fn joined_in(text: &[u8], tabbed: bool) -> Option<u32>
     requires small { length text.now ≤ MAX_SCRIPT }
     ensures value { is_some result ≡ documents.has_joined (λ rest. not tabbed || is_first is_tab rest) text.now }
+    ensures first { result ≡ lines.first_joined (λ rest. not tabbed || is_first is_tab rest) text.now }
     ensures here { IfSome result (λ at. lines.is_joined tabbed (drop at text.now) ≡ true) }
     ensures within { IfSome result (λ at. at + 1 < length text.now) }
 {
