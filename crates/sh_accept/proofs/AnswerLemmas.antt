@@ -165,11 +165,11 @@ module _ (b : List ℕ) (d : Declared) (t : Script) (names : List Text) (loops :
       none_left : (xs ys : List Place) → xs ≡ [] → ys ≡ [] → xs ++ ys ≡ []
       none_left xs ys p q = λ i. p i ++ q i
 
-  of_fail : (fs : List Finding) → HasFindings b d text fs → told ≡ Finds (map contents_of fs)
-  of_fail fs h =
+  of_fail : (fs : List Finding) → 0 < length fs → HasFindings b d text fs → told ≡ Finds (map contents_of fs)
+  of_fail fs some h =
       let c = h.certificate in
       let e : h.tree ≡ t = tree_is b d t names loops read h.tree h.certified.admitted.reading in
-      fails c fs (subst (λ u. IsCertified b d text u c) e h.certified) (subst (λ u. faults (start_facts d) (claims_in b u c) (script_of b u) ≡ []) e h.rules) h.some
+      fails c fs (subst (λ u. IsCertified b d text u c) e h.certified) (subst (λ u. faults (start_facts d) (claims_in b u c) (script_of b u) ≡ []) e h.rules) some
       (subst (λ u. AreFindings b (places b d u c) fs) e h.found)
 
   of_forgery : (k : ℕ) (r : FlowRule) → IsForged b d text k r → told ≡ Breaks k r
@@ -183,7 +183,7 @@ pub computes : (b : List ℕ) (d : Declared) (t : Script) (names : List Text) (l
     → IsRead b d t names loops → IsFilledBy b t names loops text filled → Checks b d text x → is_told x ≡ true → shown x ≡ computed b d (script_of b t) (functions_in b t) names loops filled text
 unfolding shown is_told
 computes b d t names loops filled text (Ok Pass) r by h k = sym (of_pass b d t names loops filled text r by h)
-computes b d t names loops filled text (Ok (Fail report)) r by h k = sym (of_fail b d t names loops filled text r by report.findings.items h)
+computes b d t names loops filled text (Ok (Fail report)) r by h k = sym (of_fail b d t names loops filled text r by report.findings.items report.some h)
 computes b d t names loops filled text (Ok (Forged n rule)) r by h k = sym (of_forgery b d t names loops filled text r by n rule h)
 computes b d t names loops filled text (Err e) r by h k = sym (of_refusal b d t names loops filled text r e h k)
 

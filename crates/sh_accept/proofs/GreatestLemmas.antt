@@ -71,7 +71,7 @@ none_found b ps fs e f some =
 pub failed : (b : List ℕ) (d : Declared) (r : Report) (other : Sheet) → Lints b d (Ok (Fail r)) → IsAccepted b d other → ⊥
 failed b d r other h a =
     let m = meets b d h.tree h.certificate other h.best a in
-    none_found b (places b d h.tree h.certificate) r.findings.items (λ i. m.0 i ++ m.1 i) h.found h.some
+    none_found b (places b d h.tree h.certificate) r.findings.items (λ i. m.0 i ++ m.1 i) h.found r.some
 
 pub greatest_is_best : GreatestIsBest
 greatest_is_best = record { fewest = fewest; accepted = accepted; failed = failed }

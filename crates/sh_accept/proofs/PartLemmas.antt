@@ -96,5 +96,5 @@ parts_always_answer b d text = record {
   certified = certified b d text;
   passes = passes b d text;
   forged = λ t c f h e. record { tree = t; certificate = c; certified = h; told = e };
-  fails = λ t c r h k some found. record { tree = t; certificate = c; certified = h; rules = k; some = some; found = found };
+  fails = λ t c r h k found. record { tree = t; certificate = c; certified = h; rules = k; found = found };
 }

@@ -156,7 +156,6 @@ failed full b d v r h k =
       certificate = c;
       certified = certified b d t c best full v.items k.0.spelled k.1;
       rules = best.greatest.rules;
-      some = h.some;
       found = found_there b d t h.tree c h.certificate r.findings.items tree same h.found;
     }
 

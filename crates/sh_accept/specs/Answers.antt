@@ -79,7 +79,6 @@ pub record HasFindings (b : List ℕ) (d : Declared) (text : Text) (fs : List Fi
   pub certificate : Sheet
   pub certified : IsCertified b d text tree certificate
   pub rules : KeepsRules b d tree certificate
-  pub some : 0 < length fs
   pub found : AreFindings b (places b d tree certificate) fs
 
 -- the text is no certificate, or does not fit a script that is admitted
@@ -106,7 +105,6 @@ pub record HasLeastFindings (b : List ℕ) (d : Declared) (fs : List Finding) : 
   pub tree : Script
   pub certificate : Sheet
   pub best : IsBest b d tree certificate
-  pub some : 0 < length fs
   pub found : AreFindings b (places b d tree certificate) fs
 
 abbrev pub NoRefusal : Refusal → Type 0

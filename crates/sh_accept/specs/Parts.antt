@@ -34,8 +34,8 @@ pub record PartsAnswer (b : List ℕ) (d : Declared) (text : Text) : Type 0 wher
   pub passes : (t : Script) (c : Sheet) → IsCertified b d text t c → KeepsRules b d t c → places b d t c ≡ [] → Checks b d text (Ok Pass)
   pub forged : (t : Script) (c : Sheet) (f : Fault) → IsCertified b d text t c → least (faults (start_facts d) (claims_in b t c) (script_of b t)) ≡ Some f
       → Checks b d text (Ok (Forged f.number f.rule))
-  pub fails : (t : Script) (c : Sheet) (r : Report) → IsCertified b d text t c → KeepsRules b d t c → 0 < length r.findings.items
-      → AreFindings b (places b d t c) r.findings.items → Checks b d text (Ok (Fail r))
+  pub fails : (t : Script) (c : Sheet) (r : Report) → IsCertified b d text t c → KeepsRules b d t c → AreFindings b (places b d t c) r.findings.items
+      → Checks b d text (Ok (Fail r))
 
 abbrev pub PartsAlwaysAnswer : Type 0
 PartsAlwaysAnswer = (b : List ℕ) (d : Declared) (text : Text) → PartsAnswer b d text

@@ -1,2 +1,3 @@
+pub mod CleanLemmas
 pub mod MoveLemmas
 pub mod TextLemmas

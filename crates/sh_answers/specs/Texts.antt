@@ -1,6 +1,6 @@
 -- The texts of answers, and their exit statuses.
 -- shset's own; the standard has none.
-use Rattle.std.specs.Prelude.{ℕ, zero, suc, List, [], ◌∷◌, ◌++◌, length, map, codes, Option, Some, None, Result, Ok, Err}
+use Rattle.std.specs.Prelude.{◌≡◌, ◌⊎◌, ℕ, zero, suc, List, [], ◌∷◌, ◌++◌, length, map, codes, Option, Some, None, Result, Ok, Err}
 use Rattle.std.specs.List.{flat_map}
 use Rattle.std.specs.Fmt.{decimal}
 use Rattle.sh_tree.specs.declared.place.Code.{Code}
@@ -121,3 +121,7 @@ status_of (Err Memory) = 3
 status_of (Err (Profile rule at)) = 2
 status_of (Err (CertSyntax line)) = 2
 status_of (Err CertShape) = 2
+
+-- the text of a pass is that of no other answer, nor is its status
+abbrev pub CleanIsPass : Type 0
+CleanIsPass = (script : List ℕ) (r : Result Verdict Refusal) → (answer_text script r ≡ codes "clean" ++ 10 ∷ []) ⊎ (status_of r ≡ 0) → r ≡ Ok Pass

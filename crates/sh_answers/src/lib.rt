@@ -3,6 +3,7 @@
 
 mod counted;
 mod ends;
+pub mod laws;
 mod moves;
 mod task;
 pub mod texts;

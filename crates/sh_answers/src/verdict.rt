@@ -1,5 +1,5 @@
 //! Findings, and what is reported of a script.
-ghost use Rattle.std.specs.Prelude.{IfOk};
+ghost use Rattle.std.specs.Prelude.{◌<◌, length, IfOk};
 ghost use Rattle.std.specs.List.Sorted.{IsPermutation, IsSortedByKey};
 ghost use Rattle.sh_answers.specs.Verdicts.{contents_of, contents_cmp};
 
@@ -17,10 +17,11 @@ pub struct Finding {
     pub subject: Vec<u8>,
 }
 
-/// The findings of a script, in the order in which they are shown.
+/// The findings of a script, one or more, in the order in which they are shown.
 #[derive(Debug, Drop)]
 pub struct Report {
     pub findings: Vec<Finding>,
+    ghost some: { 0 < length findings.items },
 }
 
 /// What is reported of a script that is not refused.

@@ -41,7 +41,7 @@ module _ (b : List ℕ) (d : Declared) where
     where
       go : (v : Verdict) → TellsPlaces b (places b d t c) v → Judges b d t c v
       go Pass k = (h.0, k)
-      go (Fail r) k = (h.0, k.0, k.1)
+      go (Fail r) k = (h.0, k)
       go (Forged n f) k = absurd k
 
   -- memory ran out over a place to report
@@ -55,7 +55,7 @@ module _ (b : List ℕ) (d : Declared) where
 
   answers : (text : Text) (t : Script) (c : Sheet) (v : Verdict) → IsCertified b d text t c → Judges b d t c v → Checks b d text (Ok v)
   answers text t c Pass h j = (parts_always_answer b d text).passes t c h j.0 j.1
-  answers text t c (Fail r) h j = (parts_always_answer b d text).fails t c r h j.0 j.1 j.2
+  answers text t c (Fail r) h j = (parts_always_answer b d text).fails t c r h j.0 j.1
   answers text t c (Forged n f) h j = (parts_always_answer b d text).forged t c (record { number = n; rule = f }) h j
 
   -- out of memory

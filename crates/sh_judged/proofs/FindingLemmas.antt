@@ -8,8 +8,6 @@ use Rattle.sh_tree.specs.declared.place.Place.{Place}
 use Rattle.sh_answers.specs.Findings.{AreFindings, contents_at}
 use Rattle.sh_answers.specs.Verdicts.{contents_of, contents_cmp}
 use Rattle.sh_answers.specs.declared.verdict.Finding.{Finding}
-use Rattle.sh_answers.specs.declared.verdict.Verdict.TheVariants.{Fail}
-use Rattle.sh_judged.specs.Told.{TellsPlaces}
 
 -- sorted findings of the same contents, if the sort was not refused memory
 pub sorted_findings : {E : Type 0} (b : List ℕ) (ps : List Place) (fs : List Finding) (r : Result (Vec Finding Global) E) → map contents_of fs ≡ map (contents_at b) ps
@@ -26,9 +24,9 @@ none_there [] h = refl
 none_there (x ∷ xs) h = absurd (omega arith)
 
 -- where there is a place there is a finding
-pub fails : (b : List ℕ) (ps : List Place) (fs : Vec Finding Global) → 0 < length ps → AreFindings b ps fs.items → TellsPlaces b ps (Fail (record { findings = fs }))
-fails b ps fs some f =
-    let same : length (map contents_of fs.items) ≡ length (map (contents_at b) ps) = length_permutation _ _ f.same in
-    let own : length (map contents_of fs.items) ≡ length fs.items = length-map fs.items contents_of in
+pub some_found : (b : List ℕ) (ps : List Place) (fs : List Finding) → 0 < length ps → AreFindings b ps fs → 0 < length fs
+some_found b ps fs some f =
+    let same : length (map contents_of fs) ≡ length (map (contents_at b) ps) = length_permutation _ _ f.same in
+    let own : length (map contents_of fs) ≡ length fs = length-map fs contents_of in
     let others : length (map (contents_at b) ps) ≡ length ps = length-map ps (contents_at b) in
-    (subst (λ n. 0 < n) (sym others ∙ sym same ∙ own) some, f)
+    omega arith

@@ -15,7 +15,7 @@ use Rattle.sh_accept.specs.Answers.{places}
 -- the least fault; or the findings, if there is no fault; or a pass, if there is no place either
 abbrev pub Judges : List ℕ → Declared → Script → Sheet → Verdict → Type 0
 Judges b d t c Pass = KeepsRules b d t c × (places b d t c ≡ [])
-Judges b d t c (Fail r) = KeepsRules b d t c × (0 < length r.findings.items) × AreFindings b (places b d t c) r.findings.items
+Judges b d t c (Fail r) = KeepsRules b d t c × AreFindings b (places b d t c) r.findings.items
 Judges b d t c (Forged k f) = least (faults (start_facts d) (claims_in b t c) (script_of b t)) ≡ Some (record { number = k; rule = f })
 
 -- no rule is broken, and there is a place to report

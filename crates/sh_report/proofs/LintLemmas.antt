@@ -48,7 +48,7 @@ module _ (b : List ℕ) (d : Declared) (p : Prepared) (i : IsPrepared b d p) whe
   told c g Pass h =
       let none = none_both (demands (start_facts d) (claims_in b p.tree c) (script_of b p.tree)) (unquoted (script_of b p.tree)) h in
       (c, record { tree = p.tree; names = p.names; admitted = i.admitted; fit = g.fit; rules = g.rules; met = none.0; quoted = none.1 })
-  told c g (Fail r) h = record { tree = p.tree; certificate = c; best = best c g; some = h.0; found = h.1 }
+  told c g (Fail r) h = record { tree = p.tree; certificate = c; best = best c g; found = h }
   told c g (Forged n f) h = absurd h
 
   -- the verdict on the greatest certificate

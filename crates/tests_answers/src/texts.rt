@@ -26,7 +26,16 @@ fn check(
 /// The line, the column, the code and the subject of a finding.
 type Row = (u32, u32, Code, &'static [u8]);
 
-/// The report of these findings, in order.
+/// A pass, or the report of these findings.
+fn verdict_of(findings: Vec<Finding>) -> Verdict {
+    if findings.is_empty() {
+        Verdict::Pass
+    } else {
+        Verdict::Fail(Report { findings })
+    }
+}
+
+/// The verdict of these findings, in order.
 fn report_of(alloc: Global, rows: &[Row]) -> Result<Verdict, AllocError> {
     let mut findings = Vec::new(alloc);
     for (line, column, code, subject) in rows {
@@ -37,8 +46,7 @@ fn report_of(alloc: Global, rows: &[Row]) -> Result<Verdict, AllocError> {
             subject: Vec::from_slice(alloc, *subject)?,
         })?;
     }
-    let findings = in_order(findings)?;
-    Ok(Verdict::Fail(Report { findings }))
+    Ok(verdict_of(in_order(findings)?))
 }
 
 const FINDINGS: &[Row] = &[
@@ -152,8 +160,7 @@ fn long_reports_are_shown(rt: HostRuntime) -> Result<(), Fail> {
             subject: Vec::from_slice(alloc, b"name")?,
         })?;
     }
-    let findings = in_order(findings)?;
-    let text = answer(alloc, SCRIPT, &Ok(Verdict::Fail(Report { findings })))?;
+    let text = answer(alloc, SCRIPT, &Ok(verdict_of(in_order(findings)?)))?;
     let lines = text.iter().filter(|byte| **byte == b'\n').count();
     assert_eq!(rt; lines, 60_001);
     Ok(())
