@@ -8,6 +8,7 @@ pub mod LoopLemmas
 pub mod FilledLemmas
 pub mod CompactLemmas
 pub mod StatedLemmas
+pub mod FillableLemmas
 pub mod JoinLemmas
 pub mod AnswerLemmas
 pub mod ExampleLemmas

@@ -4,6 +4,7 @@ pub mod Parts
 pub mod Theorem
 pub mod Computed
 pub mod examples
+pub mod Fillable
 pub mod Greatest
 pub mod Single
 pub mod Passed

@@ -1,6 +1,7 @@
 //! What an accepted certificate is good for, and what holds of the answers that `specs/` defines.
 ghost use Rattle.sh_accept.specs.Computed.{HasOneAnswer};
 ghost use Rattle.sh_accept.specs.examples.Answers.{AnswersAsExpected};
+ghost use Rattle.sh_accept.specs.Fillable.{ReadIsFillable};
 ghost use Rattle.sh_accept.specs.Greatest.{GreatestIsBest};
 ghost use Rattle.sh_accept.specs.Inside.{RefusalsStandInside};
 ghost use Rattle.sh_accept.specs.Once.{PlacesStandOnce};
@@ -73,6 +74,12 @@ pub fn shown()
 /// written is one text with one exit status.
 pub fn written()
     ensures { TellsOneAnswer }
+{}
+
+/// What is read of a compact certificate's text, for a script that is admitted, meets what `fill`
+/// requires.
+pub fn fillable()
+    ensures { ReadIsFillable }
 {}
 
 /// The place that a refusal names is before the end of the script's text. For a fault of syntax and

@@ -1,7 +1,6 @@
 -- What is read of a certificate's text, what is refused of it, and what a compact one states.
 use Rattle.std.proofs.Common.{◌≡◌, ℕ, Bool, true, List, length, Result, Ok, Err, IfOk, refl, sym, subst}
 use Rattle.std.specs.Prelude.{IsOk}
-use Rattle.sh_tree.specs.declared.limits.TheConstants.{MAX_NESTING}
 use Rattle.sh_tree.specs.declared.refusal.Refusal.{Refusal}
 use Rattle.sh_tree.specs.declared.refusal.Refusal.TheVariants.{Memory}
 use Rattle.sh_tree.specs.declared.tree.Script.{Script}
@@ -10,22 +9,18 @@ use Rattle.sh_runs.specs.Calls.{Table}
 use Rattle.sh_domain.specs.Facts.{Declared}
 use Rattle.sh_domain.specs.Certificates.{in_byte_order}
 use Rattle.sh_domain.specs.CompactForms.{read_given}
-use Rattle.sh_domain.specs.CompactReading.{ReadsGiven, compact_fits, given_claims, given_fits, given_rows}
-use Rattle.sh_domain.specs.Compacts.{CompactSheet, compact_claims, stated_sheet}
+use Rattle.sh_domain.specs.CompactReading.{ReadsGiven, given_claims, given_rows}
+use Rattle.sh_domain.specs.Compacts.{compact_claims}
 use Rattle.sh_domain.specs.Filled.{FillsTo}
-use Rattle.sh_domain.specs.Reading.{AreLoops, fits}
-use Rattle.sh_domain.specs.CompactSpelling.{IsCompactSheet}
 use Rattle.sh_domain.specs.declared.certificate.Certificate.{Certificate}
 use Rattle.sh_domain.specs.declared.compact.Compact.{Compact}
 use Rattle.sh_domain.specs.declared.compact.Given.{Given}
 use Rattle.sh_domain.specs.declared.compact.Given.TheVariants as given
-use Rattle.sh_domain.proofs.CompactRoundTripLemmas.{compact_within, given_compact}
-use Rattle.sh_domain.proofs.CompactSpellingLemmas.{compact_is_sheet}
 use Rattle.sh_domain.specs.Admitted.{functions_in}
 use Rattle.sh_accept.specs.Accepted.{Gives}
-use Rattle.sh_accept.proofs.LoopLemmas.{one_order}
+use Rattle.sh_accept.specs.Fillable.{IsFillable}
+use Rattle.sh_accept.proofs.FillableLemmas.{read_is_fillable}
 use Rattle.sh_accept.proofs.PartLemmas.{parts_always_answer}
-use Rattle.sh_accept.proofs.StatedLemmas.{stated_fits}
 use Rattle.sh_judged.specs.Prepared.{AnswersText, IsPrepared, IsRead, sheet_in}
 use Rattle.sh_judged.specs.declared.prepared.Prepared.{Prepared}
 
@@ -49,22 +44,9 @@ module _ (b : List ℕ) (d : Declared) (p : Prepared) (i : IsPrepared b d p) whe
       → Gives b p.tree p.names (given_claims p.names g) (sheet_in p c) → AnswersText b d text p (Ok c)
   certifies text g c h gives = (parts_always_answer b d text).certified p.tree p.names g (sheet_in p c) i.admitted (reads_whole text (Ok g) h) gives
 
-  -- what a compact one states fits the script, and it may be written
-  pub stated_fit : (k : Compact) → IsRead p (given.Compact k) → (loops : List Bool) → AreLoops p.tree loops
-      → fits p.names loops (length (functions_in b p.tree)) (stated_sheet (compact_claims (in_byte_order p.names) k)) ≡ true
-  unfolding given_claims given_fits
-  stated_fit k r loops are =
-      let s : CompactSheet = compact_claims (in_byte_order p.names) k in
-      let whole = reads_whole r.0 (Ok (given.Compact k)) r.1 in
-      let fit : compact_fits p.names whole.0 (length (functions_in b p.tree)) s ≡ true = whole.2.fit in
-      let same = one_order b p.tree MAX_NESTING i.admitted.reading.1.0 i.admitted.reading.1.1 whole.0 loops whole.1 are in
-      stated_fits p.names loops (length (functions_in b p.tree)) s (subst (λ ls. compact_fits p.names ls (length (functions_in b p.tree)) s ≡ true) (sym same) fit)
-
-  pub compact_read : (k : Compact) → IsRead p (given.Compact k) → IsCompactSheet (compact_claims (in_byte_order p.names) k)
-  unfolding given_claims
-  compact_read k r =
-      let s : CompactSheet = compact_claims (in_byte_order p.names) k in
-      compact_is_sheet r.0 s (compact_within r.0 s (given_compact r.0 s r.1.2.claims))
+  -- what is read of a compact one may be filled
+  pub fillable : (k : Compact) → IsRead p (given.Compact k) → IsFillable b p.tree p.names (compact_claims (in_byte_order p.names) k)
+  fillable k r = read_is_fillable b d p.tree p.names r.0 k i.admitted (reads_whole r.0 (Ok (given.Compact k)) r.1)
 
 -- What is given, by its version
 

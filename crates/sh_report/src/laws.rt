@@ -1,7 +1,8 @@
-//! The limits of what is read.
+//! The limits of what is read, and that what is read of a compact certificate may be filled.
 ghost use Rattle.std.specs.Prelude.{◌≡◌, ◌∷◌, [], codes};
 ghost use Rattle.sh_domain.specs.Names.{first_names};
 
+pub use sh_accept::laws::fillable;
 use sh_domain::MAX_CERTIFICATE;
 use sh_tree::{MAX_COMMANDS, MAX_NAMES, MAX_NESTING, MAX_SCRIPT};
 

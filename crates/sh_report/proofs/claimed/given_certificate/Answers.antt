@@ -1,9 +1,6 @@
 use Rattle.std.proofs.Common.{length, subst}
-use Rattle.sh_domain.specs.Certificates.{in_byte_order}
-use Rattle.sh_domain.specs.Compacts.{compact_claims}
-use Rattle.sh_accept.proofs.StatedLemmas.{stated_written}
 use Rattle.sh_judged.specs.Prepared.{IsRead}
-use Rattle.sh_report.proofs.CertificateLemmas.{compact_gives, compact_read, compact_sized, full_gives, full_sized, stated_fit}
+use Rattle.sh_report.proofs.CertificateLemmas.{compact_gives, compact_sized, fillable, full_gives, full_sized}
 use Rattle.sh_report.proofs.claimed.given_certificate.Goals as goal
 
 pub fill-requires-clause-sized : goal.fill-requires-clause-sized
@@ -11,16 +8,15 @@ fill-requires-clause-sized c = compact_sized c.in-Compact.compact (length c.args
 
 pub fill-requires-clause-fits : goal.fill-requires-clause-fits
 fill-requires-clause-fits c =
-    stated_fit c.args.script.now c.args.policy.now c.args.prepared.now c.requires.prepared c.in-Compact.compact (subst (IsRead c.args.prepared.now) c.in-Compact.is c.requires.read)
+    (fillable c.args.script.now c.args.policy.now c.args.prepared.now c.requires.prepared c.in-Compact.compact (subst (IsRead c.args.prepared.now) c.in-Compact.is c.requires.read)).fit
 
 pub fill-requires-clause-spelled : goal.fill-requires-clause-spelled
 fill-requires-clause-spelled c =
-    stated_written (compact_claims (in_byte_order c.args.prepared.now.names) c.in-Compact.compact)
-    (compact_read c.args.script.now c.args.policy.now c.args.prepared.now c.requires.prepared c.in-Compact.compact (subst (IsRead c.args.prepared.now) c.in-Compact.is c.requires.read))
+    (fillable c.args.script.now c.args.policy.now c.args.prepared.now c.requires.prepared c.in-Compact.compact (subst (IsRead c.args.prepared.now) c.in-Compact.is c.requires.read)).spelled
 
 pub fill-requires-clause-started : goal.fill-requires-clause-started
 fill-requires-clause-started c =
-    (compact_read c.args.script.now c.args.policy.now c.args.prepared.now c.requires.prepared c.in-Compact.compact (subst (IsRead c.args.prepared.now) c.in-Compact.is c.requires.read)).start
+    (fillable c.args.script.now c.args.policy.now c.args.prepared.now c.requires.prepared c.in-Compact.compact (subst (IsRead c.args.prepared.now) c.in-Compact.is c.requires.read)).started
 
 pub returns-in-Full-clause-gives : goal.returns-in-Full-clause-gives
 returns-in-Full-clause-gives c = full_gives c.args.script.now c.args.prepared.now c.in-Full.certificate c.args.given c.in-Full.is
