@@ -23,4 +23,9 @@ pub use compact_reading::read_any;
 pub use compact_texts::write_compact;
 pub use compacting::{compact_of, start_of};
 pub use length::is_too_long;
+pub use reading::read_certificate;
+pub use sh_domain::{
+    Assured, Certificate, Compact, Drops, Entry, Facts, FlowRule, FunctionEntry, Given, Knowledge,
+    MAX_CERTIFICATE, Names, NumberSet, Policy, PolicyFault, RowId, Rows, laws,
+};
 pub use texts::write_certificate;

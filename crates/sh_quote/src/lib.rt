@@ -14,3 +14,4 @@ mod unquoted;
 mod values;
 
 pub use places::check_quotes;
+pub use steady::steady_ifs;

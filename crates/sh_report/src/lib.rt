@@ -14,4 +14,7 @@ pub use claimed::certified;
 pub use engine::run;
 pub use lints::{certificate, lint};
 pub use prints::canonical_text;
+pub use sh_answers::{
+    Action, Broken, Counted, Counts, Fault, Feed, Finding, Outlet, Report, Task, Verdict,
+};
 pub use sh_judged::verdict_of;
