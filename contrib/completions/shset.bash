@@ -14,7 +14,16 @@ _shset() {
     done
     case ${COMP_WORDS[COMP_CWORD - 1]} in --args | =) return ;; esac
     case $word in
-        -?*) mapfile -t COMPREPLY < <(compgen -W '--args --help --full' -- "$word") ;;
+        -?*)
+            local options=
+            case $command in
+                lint) options='--args --help' ;;
+                cert) options='--args --full --help' ;;
+                check) options='--args --help' ;;
+                print) options='--help' ;;
+            esac
+            mapfile -t COMPREPLY < <(compgen -W "$options" -- "$word")
+            ;;
         *)
             local files=1
             [ "$command" != check ] || files=2
@@ -22,7 +31,7 @@ _shset() {
                 compopt -o filenames
                 mapfile -t COMPREPLY < <(compgen -f -- "$word")
             else
-                mapfile -t COMPREPLY < <(compgen -e -- "$word")
+                case $command in lint | cert | check) mapfile -t COMPREPLY < <(compgen -e -- "$word") ;; esac
             fi
             ;;
     esac

@@ -30,4 +30,4 @@ complete -c shset -n '__fish_seen_subcommand_from lint cert check' -l args -x -d
 complete -c shset -n '__fish_seen_subcommand_from lint cert check print' -s h -l help -d 'Print help'
 complete -c shset -n '__fish_seen_subcommand_from cert' -l full -d 'Prints what is claimed round each command too'
 complete -c shset -n __shset_takes_file -F
-complete -c shset -n '__fish_seen_subcommand_from lint cert check print; and not __shset_takes_file' -a '(set -n)'
+complete -c shset -n '__fish_seen_subcommand_from lint cert check; and not __shset_takes_file' -a '(set -n)'
