@@ -11,8 +11,8 @@ use sh_tree::Script;
 use std::alloc::{AllocError, Global};
 
 impl Tally<'_> {
-    /// The greatest counts at the places of a script that solve its equations, and are at most what
-    /// is claimed. No certificate that keeps the flow rules has a greater count at such a place.
+    /// Counts at the places of a script, which solve its equations. No certificate that keeps the
+    /// flow rules has a greater one at such a place.
     ///
     /// # Errors
     ///
