@@ -11,7 +11,7 @@ use Rattle.sh_tree.specs.declared.token.word.Site.TheVariants as site
 use Rattle.sh_tree.specs.standard.Tree.{text_of}
 use Rattle.sh_tree.specs.standard.language.Bytes.{is_first, is_tab}
 use Rattle.sh_tree.specs.standard.language.Contexts.{in_document_of}
-use Rattle.sh_tree.specs.standard.language.HereDocuments.{Mark, end_line, behind_line, is_ambiguous, keeps_document, is_split_text, has_tabbed_line, has_joined}
+use Rattle.sh_tree.specs.standard.language.HereDocuments.{Mark, begins_late, end_line, behind_line, is_ambiguous, keeps_document, is_split_text, has_tabbed_line, has_joined}
 use Rattle.sh_tree.specs.standard.language.Parts.{keeps_lines, singles}
 use Rattle.sh_tree.specs.standard.language.Reading.{ReadsParts}
 use Rattle.sh_tree.specs.standard.language.States.{Spot}
@@ -122,8 +122,11 @@ module _ {b b' : List ℕ} (c : Copied b b') (ahead : Ahead c) where
 
 -- Lines that are kept
 
-pub ambiguity_same : (m : Mark) (b b' : List ℕ) (i j i' j' : ℕ) → text_of b' (span i' j') ≡ text_of b (span i j) → is_ambiguous m b' i' j' ≡ is_ambiguous m b i j
-ambiguity_same m b b' i j i' j' e = ap (λ t. m.strip && not m.quoted && has_joined (is_first is_tab) t) e
+pub ambiguity_same : (m : Mark) (b b' : List ℕ) (i i' : ℕ) (l l' : Span) → text_of b' (span i' l'.start) ≡ text_of b (span i l.start) → text_of b' l' ≡ text_of b l
+    → is_ambiguous m b' i' l' ≡ is_ambiguous m b i l
+ambiguity_same m b b' i i' l l' e f =
+    ap (λ t. (m.strip && not m.quoted && has_joined (is_first is_tab) t) || (not m.quoted && begins_late (text_of b' l') && is_split_text (text_of b' l'))) e
+    ∙ ap (λ t. (m.strip && not m.quoted && has_joined (is_first is_tab) (text_of b (span i l.start))) || (not m.quoted && begins_late t && is_split_text t)) f
 
 pub document_same : (b b' : List ℕ) (joins joins' tabs tabs' : Bool) (m : Mark) (l l' : Span) → joins' ≡ joins → tabs' ≡ tabs → text_of b' l' ≡ text_of b l
     → keeps_document b' joins' tabs' m l' ≡ keeps_document b joins tabs m l

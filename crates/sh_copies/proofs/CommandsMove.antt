@@ -171,7 +171,7 @@ module _ {limit n : ℕ} (words : WordsMove limit n) (parts : PartsMove limit n)
       let rest = documents_move (moved_document c ahead d d' u found.u m end.behind) ds (omega arith) within in (
         rest.0,
         rest.1,
-        r.more_bodies end.is (ambiguity_same k b b' s.spot.at l.start s'.spot.at end.to.start text ∙ a)
+        r.more_bodies end.is (ambiguity_same k b b' s.spot.at s'.spot.at l end.to text (same_text c end.start end.end high (omega arith)) ∙ a)
             (document_same b b' s.spot.joins s'.spot.joins s.spot.tabs s'.spot.tabs k (span s.spot.at (behind_line b l.end)) (span s'.spot.at (behind_line b' end.to.end)) m.spot.joins m.spot.tabs
             (same_text c m.spot.place end.behind (omega arith) (omega arith))
             ∙ keeps)

@@ -3,7 +3,7 @@
 use Rattle.std.proofs.Common.{◌≡◌, ℕ, suc, ◌+◌, ◌-◌, ◌<◌, ◌≤◌, Bool, true, false, not, ◌&&◌, ◌||◌, if◌then◌else◌, List, [], ◌∷◌, ◌++◌, length, drop, take, Some, refl, sym, ap, ◌∙◌, arith, eqb-true, length-drop, length-append}
 use Rattle.std.specs.List.{list_any}
 use Rattle.std.specs.Str.{bytes_eq}
-use Rattle.std.proofs.Math.Seq.{take-append_seam}
+use Rattle.std.proofs.Math.Seq.{drop-append_seam, take-append_seam}
 use Rattle.std.proofs.lemmas.Bool.{cond-true, cond-false, true≢false, and_parts}
 use Rattle.std.proofs.lemmas.List.{drop-drop, take-append-drop, length-take-le}
 use Rattle.std.proofs.lemmas.List.Sums.{take_while-cons}
@@ -152,7 +152,7 @@ cut_of m b i l found =
     }
 
 pub document_copied : (limit : ℕ) → ((n : ℕ) → PartsMove limit n) → (b : List ℕ) (m : Mark) (s : State) (u : Spot) (l : Span) (parts : List Part) → s.spot.joins ≡ false → s.spot.tabs ≡ false
-    → IsMark m → end_line m b s.spot.at ≡ Some l → is_ambiguous m b s.spot.at l.start ≡ false
+    → IsMark m → end_line m b s.spot.at ≡ Some l → is_ambiguous m b s.spot.at l ≡ false
     → ReadsParts limit (take l.start b) (in_document_of m) 10 (in_document m s) u parts → keeps_lines b (not m.quoted) parts ≡ true
     → DocumentOf limit m (text_of b (span s.spot.at l.start)) (text_of b l)
 document_copied limit moves b m s u l parts joins tabs mark found clear reads keeps =
@@ -174,7 +174,12 @@ document_copied limit moves b m s u l parts joins tabs mark found clear reads ke
           (line_ends (not m.quoted) e (drop l.end b) rest cut.size_is (end_hangs_not m e mark cut.is)) (omega arith);
       is_unambiguous = λ b' rest j here.
           let long : j + length v - j ≡ length v = omega arith in
-          ambiguity_same m b b' i l.start j (j + length v) (ap (λ n. take n (drop j b')) long ∙ front b' rest j here) ∙ clear;
+          let line = span (j + length v) (j + length v + length e) in
+          let line_long : line.end - line.start ≡ length e = omega arith in
+          let end : drop line.start b' ≡ e ++ 10 ∷ rest = sym (drop-drop (length v) j b') ∙ ap (drop (length v)) here ∙ drop-append_seam v (e ++ 10 ∷ rest) in
+          ambiguity_same m b b' i j l line (ap (λ n. take n (drop j b')) long ∙ front b' rest j here)
+          (ap (λ n. take n (drop line.start b')) line_long ∙ ap (take (length e)) end ∙ take-append_seam e (10 ∷ rest))
+          ∙ clear;
       is_read = λ b' rest j n here.
           let whole = length-append v (e ++ 10 ∷ rest) in
           let far = length-drop j b' in

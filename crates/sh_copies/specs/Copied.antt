@@ -103,7 +103,7 @@ pub record DocumentOf (limit : ℕ) (mark : Mark) (text end : List ℕ) : Type 0
   pub ends : (b rest : List ℕ) (i : ℕ) → drop i b ≡ text ++ (end ++ 10 ∷ rest)
       → end_line mark b i ≡ Some (span (i + length text) (i + length text + length end))
   pub is_unambiguous : (b rest : List ℕ) (i : ℕ) → drop i b ≡ text ++ (end ++ 10 ∷ rest)
-      → is_ambiguous mark b i (i + length text) ≡ false
+      → is_ambiguous mark b i (span (i + length text) (i + length text + length end)) ≡ false
   pub is_read : (b rest : List ℕ) (i n : ℕ) → drop i b ≡ text ++ (end ++ 10 ∷ rest)
       → (u : Spot) × (parts : List Part)
       × ReadsParts limit (take (i + length text) b) (in_document_of mark) 10 (body_spot mark i n) u parts
@@ -125,6 +125,6 @@ pub record WordsAreCopied : Type 0 where
       → ReadsWord limit b (in_unsplit s.at) s u w → is_delimiter b w ≡ true
       → IsMark (record { strip = strip; quoted = is_quoted_word w; delimiter = delimiter_of b w; depth = depth })
   pub documents : (limit : ℕ) (b : List ℕ) (m : Mark) (s : State) (u : Spot) (l : Span) (parts : List Part) → s.spot.joins ≡ false → s.spot.tabs ≡ false
-      → IsMark m → end_line m b s.spot.at ≡ Some l → is_ambiguous m b s.spot.at l.start ≡ false
+      → IsMark m → end_line m b s.spot.at ≡ Some l → is_ambiguous m b s.spot.at l ≡ false
       → ReadsParts limit (take l.start b) (in_document_of m) 10 (in_document m s) u parts → keeps_lines b (not m.quoted) parts ≡ true
       → DocumentOf limit m (text_of b (span s.spot.at l.start)) (text_of b l)

@@ -4,7 +4,7 @@ use Rattle.std.proofs.lemmas.Bool.{true≢false}
 use Rattle.sh_tree.specs.standard.Tree.{text_of}
 use Rattle.sh_tree.specs.declared.tree.Span.{Span}
 use Rattle.sh_tree.specs.standard.language.Bytes.{is_first, is_tab}
-use Rattle.sh_tree.specs.standard.language.HereDocuments.{behind_line, has_joined, has_tabbed_line, is_split_text, keeps_document}
+use Rattle.sh_tree.specs.standard.language.HereDocuments.{begins_late, behind_line, has_joined, has_tabbed_line, is_split_text, keeps_document}
 use Rattle.sh_tree.specs.standard.language.Trees.{span}
 use Rattle.sh_grammar.specs.declared.mark.Mark.{Mark}
 use Rattle.sh_grammar.specs.declared.state.State.{State}
@@ -35,6 +35,18 @@ tabs_kept true true t h = refl
 tabs_kept true false false h = refl
 tabs_kept true false true h = absurd (true≢false (sym h))
 
+told_either : (p q : Bool) → true ≡ p → (p || q) ≡ false → ⊥
+told_either true q h k = true≢false k
+told_either false q h k = true≢false h
+
+told_other : (p q : Bool) → true ≡ q → (p || q) ≡ false → ⊥
+told_other true q h k = true≢false k
+told_other false q h k = true≢false (h ∙ k)
+
+neither : (p q : Bool) → false ≡ p → false ≡ q → (p || q) ≡ false
+neither false q h k = sym k
+neither true q h k = absurd (true≢false (sym h))
+
 both : (p q : Bool) → p ≡ true → q ≡ true → (p && q) ≡ true
 both true q h k = k
 both false q h k = h
@@ -62,8 +74,17 @@ module _ (b : List ℕ) (m : Mark) (s : State) (l : Span) where
   abbrev lines : List ℕ
   lines = text_of b (span s.at (behind_line b l.end))
 
-  pub ambiguous_told : true ≡ ((m.strip && not m.quoted) && has_joined (is_first is_tab) (text_of b (span s.at l.start))) → IsKept b m s l → ⊥
-  ambiguous_told h k = true≢false (h ∙ k.plain)
+  abbrev tabbed : Bool
+  tabbed = (m.strip && not m.quoted) && has_joined (is_first is_tab) (text_of b (span s.at l.start))
+
+  abbrev late : Bool
+  late = (not m.quoted && begins_late (text_of b l)) && is_split_text (text_of b l)
+
+  pub ambiguous_told : true ≡ tabbed → IsKept b m s l → ⊥
+  ambiguous_told h k = told_either tabbed late h k.plain
+
+  pub late_told : true ≡ late → IsKept b m s l → ⊥
+  late_told h k = told_other tabbed late h k.plain
 
   pub split_told : true ≡ ((s.joins && m.quoted) && is_split_text lines) → IsKept b m s l → ⊥
   unfolding keeps_document
@@ -73,10 +94,10 @@ module _ (b : List ℕ) (m : Mark) (s : State) (l : Span) where
   unfolding keeps_document
   tabbed_told h k = told_tabbed (not (s.joins && m.quoted) || not (is_split_text lines)) s.tabs m.strip (has_tabbed_line true lines) h k.kept
 
-  pub lines_kept : false ≡ ((m.strip && not m.quoted) && has_joined (is_first is_tab) (text_of b (span s.at l.start))) → false ≡ ((s.joins && m.quoted) && is_split_text lines)
-      → false ≡ ((s.tabs && not m.strip) && has_tabbed_line true lines) → IsKept b m s l
+  pub lines_kept : false ≡ tabbed → false ≡ ((s.joins && m.quoted) && is_split_text lines) → false ≡ ((s.tabs && not m.strip) && has_tabbed_line true lines) → false ≡ late
+      → IsKept b m s l
   unfolding keeps_document
-  lines_kept ambiguous split tabbed = record {
-    plain = sym ambiguous;
-    kept = both _ _ (joined_kept (s.joins && m.quoted) (is_split_text lines) split) (tabs_kept s.tabs m.strip (has_tabbed_line true lines) tabbed);
+  lines_kept ambiguous split stripped end = record {
+    plain = neither tabbed late ambiguous end;
+    kept = both _ _ (joined_kept (s.joins && m.quoted) (is_split_text lines) split) (tabs_kept s.tabs m.strip (has_tabbed_line true lines) stripped);
   }

@@ -133,7 +133,7 @@ documents_first b all s lies marked = record { forth = λ limit u h. h; back = �
 
 -- a body, and the others after it
 first_document : {limit : ℕ} {b : List ℕ} {s u : states.State} {n : documents.Mark} {ms : List documents.Mark} → ReadsDocuments limit b (n ∷ ms) s u
-    → (l : Span) × (w : Spot) × (ps : List Part) × (end_line n b s.spot.at ≡ Some l) × (documents.is_ambiguous n b s.spot.at l.start ≡ false)
+    → (l : Span) × (w : Spot) × (ps : List Part) × (end_line n b s.spot.at ≡ Some l) × (documents.is_ambiguous n b s.spot.at l ≡ false)
     × (documents.keeps_document b s.spot.joins s.spot.tabs n (record { start = s.spot.at; end = behind_line b l.end }) ≡ true)
     × ReadsParts limit (take l.start b) (in_document_of n) 10 (in_document n s) w ps × (keeps_lines b (not n.quoted) ps ≡ true)
     × ReadsDocuments limit b ms (with_document (behind_line b l.end) (record { text = word s.spot.at l.start ps; end = l }) w s) u

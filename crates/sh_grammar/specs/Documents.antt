@@ -32,7 +32,7 @@ Passing b R least (Err e) = Refused b R e
 
 -- the lines of the body from i on that the line l ends are read in one way
 pub record IsKept (b : List ℕ) (m : Mark) (s : State) (l : Span) : Type 0 where
-  pub plain : is_ambiguous (mark_of m) b s.at l.start ≡ false
+  pub plain : is_ambiguous (mark_of m) b s.at l ≡ false
   pub kept : keeps_document b s.joins s.tabs (mark_of m) (span s.at (behind_line b l.end)) ≡ true
 
 abbrev pub Checks : List ℕ → Mark → State → Span → Result (Unit {0}) Refusal → Type 0

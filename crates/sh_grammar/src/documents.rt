@@ -41,6 +41,24 @@ fn strips_joined(mark: &Mark) -> bool
     mark.strip && !mark.quoted
 }
 
+/// Whether the line begins with a backslash, or with a tab.
+#[tactic(auto, unfolding(sh_tree::specs::standard::language::Bytes::is_first))]
+fn begins_late(line: &[u8]) -> bool
+    ensures { result ≡ here_documents.begins_late line.now }
+{
+    match line {
+        [] => false,
+        [first, ..] => *first == b'\\' || *first == b'\t',
+    }
+}
+
+/// Whether the end line is joined, and may begin with a continuation.
+fn joins_end(mark: &Mark, line: &[u8]) -> bool
+    ensures { result ≡ (not mark.now.quoted && here_documents.begins_late line.now) }
+{
+    !mark.quoted && begins_late(line)
+}
+
 /// Whether the here-document keeps continuations, and what is around joins lines.
 fn keeps_joined(mark: &Mark, from: &State) -> bool
     ensures { result ≡ (from.now.joins && mark.now.quoted) }
@@ -57,7 +75,7 @@ fn keeps_tabs(mark: &Mark, from: &State) -> bool
 
 /// A line that is read in two ways. If `<<-` strips tabs, it is one that begins with a tab after a
 /// continuation. In a body around, which is joined or stripped, it is one that this here-document
-/// keeps as it is.
+/// keeps as it is. The end line is one if it begins with a continuation.
 fn check_lines(script: &[u8], mark: &Mark, line: Span, from: &State) -> Result<(), Refusal>
     requires small { length script.now ≤ MAX_SCRIPT }
     requires ordered { (from.now.at ≤ line.start) × (line.start ≤ line.end) × (line.end ≤ length script.now) }
@@ -80,6 +98,10 @@ fn check_lines(script: &[u8], mark: &Mark, line: Span, from: &State) -> Result<(
     }
     if let Some(at) = tabbed_if(keeps_tabs(mark, from), whole.text(script)) {
         return Err(Refusal::LeftOut(Form::HereTab, from.at + at));
+    }
+    let end = line.text(script);
+    if let Some(at) = joined_if(joins_end(mark, end), end, false) {
+        return Err(Refusal::LeftOut(Form::Continuation, line.start + at));
     }
     Ok(())
 }

@@ -12,7 +12,7 @@ use Rattle.sh_tree.specs.declared.tree.SingleStyle.TheVariants as single
 use Rattle.sh_tree.specs.declared.tree.Subject.TheVariants.{Name}
 use Rattle.sh_tree.specs.declared.tree.Target.TheVariants.{Here}
 use Rattle.sh_tree.specs.standard.language.Contexts.{in_word, in_unsplit, in_document_of}
-use Rattle.sh_tree.specs.examples.Documents.{counted_document_script, counted_document_text, group_document_script, group_document_text, inner_document_script, inner_document_text, joined_end_script, joined_end_text, paired_comment_script, paired_comment_text, paired_document_script, paired_document_text, paired_quotes_script, paired_quotes_text, piped_document_script, piped_document_text, quiet_script, quiet_text, tabbed_end_script, tabbed_end_text, tabs_in_pattern_script, tabs_in_pattern_text, tabs_in_quotes_script, tabs_in_quotes_text, two_documents_script, two_documents_text, unended_line_script, unended_line_text, verbatim_script, verbatim_text}
+use Rattle.sh_tree.specs.examples.Documents.{counted_document_script, counted_document_text, group_document_script, group_document_text, inner_document_script, inner_document_text, joined_end_script, joined_end_text, paired_comment_script, paired_comment_text, paired_document_script, paired_document_text, paired_quotes_script, paired_quotes_text, piped_document_script, piped_document_text, quiet_script, quiet_text, tabs_in_pattern_script, tabs_in_pattern_text, tabs_in_quotes_script, tabs_in_quotes_text, two_documents_script, two_documents_text, unended_line_script, unended_line_text, verbatim_script, verbatim_text}
 use Rattle.sh_tree.specs.examples.Language.{plain, bare, simple, utility, lone}
 use Rattle.sh_tree.specs.standard.language.HereDocuments.{Mark}
 use Rattle.sh_tree.specs.standard.language.Reading as r
@@ -481,35 +481,6 @@ paired_document_reads =
     let list17 : ReadsList 1 paired_document_text paired_document_bodies1 (at_token 0 0 0) (record (at_token 21 2 0) { bodies = paired_document_document1 ∷ [] }) _ =
     r.list (r.no_break refl) refl (r.ended_item list4 refl line16 refl) in
     whole paired_document_text 1 (record (at_token 21 2 0) { bodies = paired_document_document1 ∷ [] }) paired_document_script refl (r.sequence list17) refl refl
-
-abbrev tabbed_end_mark : Mark
-tabbed_end_mark = record { strip = true; quoted = false; delimiter = codes "E"; depth = 0 }
-
-abbrev tabbed_end_document : Document
-tabbed_end_document = record { text = bare 5 7; end = span 7 11 }
-
-abbrev tabbed_end_bodies : ℕ → Document
-tabbed_end_bodies = nth (tabbed_end_document ∷ [])
-
-pub tabbed_end_reads : Reads tabbed_end_text tabbed_end_script
-unfolding computes
-tabbed_end_reads =
-    let word1 : ReadsWord 0 tabbed_end_text (in_unsplit 3) (at_word 3 1 0) (at_word 4 1 0) (bare 3 4) = r.whole_word (r.more refl r.plain (r.stop refl)) refl refl in
-    let operator2 : ReadsRedirect 0 tabbed_end_text tabbed_end_bodies (at_token 0 1 0) (record (at_token 4 1 0) { pending = tabbed_end_mark ∷ [] }) _ =
-    r.here_document refl refl refl word1 refl in
-    let command3 : ReadsCommand 0 tabbed_end_text tabbed_end_bodies (at_token 0 0 0) (record (at_token 4 1 0) { pending = tabbed_end_mark ∷ [] }) _ =
-    r.simple_command refl (r.redirect_element refl operator2 (r.no_element refl)) in
-    let list4 : ReadsAndOr 0 tabbed_end_text tabbed_end_bodies (at_token 0 0 0) (record (at_token 4 1 0) { pending = tabbed_end_mark ∷ [] }) _ =
-    alone_reads command3 refl refl refl in
-    let body5 : ReadsParts 0 (take 7 tabbed_end_text) (in_document_of tabbed_end_mark) 10 (record (at_word 5 1 0) { joins = true; tabs = true }) (record (at_word 7 1 0) { joins = true; tabs = true }) (plain 5 7 ∷ []) =
-    r.more refl r.plain (r.stop refl) in
-    let bodies6 : ReadsDocuments 0 tabbed_end_text (tabbed_end_mark ∷ []) (at_token 5 1 0) (record (at_token 12 1 0) { bodies = tabbed_end_document ∷ [] }) =
-    r.more_bodies refl refl refl body5 refl r.no_body in
-    let line7 : ReadsBreaks 0 tabbed_end_text (record (at_token 4 1 0) { pending = tabbed_end_mark ∷ [] }) (record (at_token 12 1 0) { bodies = tabbed_end_document ∷ [] }) =
-    r.more_breaks refl refl bodies6 (r.no_break refl) in
-    let list8 : ReadsList 0 tabbed_end_text tabbed_end_bodies (at_token 0 0 0) (record (at_token 12 1 0) { bodies = tabbed_end_document ∷ [] }) _ =
-    r.list (r.no_break refl) refl (r.ended_item list4 refl line7 refl) in
-    whole tabbed_end_text 0 (record (at_token 12 1 0) { bodies = tabbed_end_document ∷ [] }) tabbed_end_script refl (r.sequence list8) refl refl
 
 abbrev tabs_in_pattern_mark : Mark
 tabs_in_pattern_mark = record { strip = true; quoted = false; delimiter = codes "E"; depth = 0 }

@@ -233,7 +233,7 @@ module _ (limit : ℕ) (b : List ℕ) (s : State) where
   -- the body at s and the line that ends it
   abbrev pub DocumentIs : Mark → Type 0
   DocumentIs m =
-      (l : Span) × (u : Spot) × (ps : List Part) × (end_line m b s.spot.at ≡ Some l) × (is_ambiguous m b s.spot.at l.start ≡ false)
+      (l : Span) × (u : Spot) × (ps : List Part) × (end_line m b s.spot.at ≡ Some l) × (is_ambiguous m b s.spot.at l ≡ false)
       × (keeps_document b s.spot.joins s.spot.tabs m (span s.spot.at (behind_line b l.end)) ≡ true)
       × ReadsParts limit (take l.start b) (in_document_of m) 10 (in_document m s) u ps
 

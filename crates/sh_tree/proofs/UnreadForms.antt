@@ -28,7 +28,7 @@ use Rattle.sh_tree.specs.standard.language.Trees.{param, span, word}
 use Rattle.sh_tree.specs.standard.language.Reading as r
 use Rattle.sh_tree.specs.standard.language.Reading.{ReadsParts, ReadsRedirect, ReadsScript, ReadsSequence, ReadsWord, lead_here, start}
 use Rattle.sh_tree.specs.examples.Language.{IsUnread, bare, plain}
-use Rattle.sh_tree.specs.examples.Unread.{across_text, backquoted_text, backslash_text, default_backquotes_text, dollar_delimiter_text, dollar_single_text, double_bracket_text, double_parenthesis_text, expanded_delimiter_text, joined_tab_text, location_text, negated_parenthesis_text, other_braced_text, quoted_backslash_text, split_comment_text, split_end_text, split_quotes_text, tilde_delimiter_text, unsplit_text}
+use Rattle.sh_tree.specs.examples.Unread.{across_text, backquoted_text, backslash_text, default_backquotes_text, dollar_delimiter_text, dollar_single_text, double_bracket_text, double_parenthesis_text, expanded_delimiter_text, joined_tab_text, late_end_text, location_text, negated_parenthesis_text, other_braced_text, quoted_backslash_text, split_comment_text, split_end_text, split_quotes_text, tabbed_end_text, tilde_delimiter_text, unsplit_text}
 use Rattle.sh_tree.proofs.Inversions.{bare_command_ends, bare_word_ends, document_is, elements_word, first_part, items_end, items_first, no_sequence, nothing_at, one_part_word, opening_document, opening_operator, opening_redirect, opening_word, script_is, sequence_items, some_breaks, some_one, word_parts}
 use Rattle.sh_tree.proofs.LanguageLemmas.{at_token, at_word, computes, the_mark}
 use Rattle.sh_tree.proofs.UnreadLemmas.{ends_before, tabs_mark}
@@ -189,7 +189,28 @@ joined_tab_unread t h =
     refl refl h.2.script in
     let body = document_is tabs_mark [] refl d.1 in
     let end : span 10 11 ≡ body.0 = some_one body.3 in
-    true≢false (ap (λ l. is_ambiguous tabs_mark joined_tab_text 5 l.start) end ∙ body.4)
+    true≢false (ap (λ l. is_ambiguous tabs_mark joined_tab_text 5 l) end ∙ body.4)
+
+pub late_end_unread : IsUnread late_end_text
+unfolding computes
+late_end_unread t h =
+    let d = opening_document (first_operator 2) false 3 (bare 2 3) refl refl refl refl
+    (λ u y w. let o = one_part_word sign.Plain (plain 2 3) 3 refl refl (λ v p q. q) refl refl w in (ap (λ v. past late_end_text v (at_token 0 1 0)) o.0, o.1))
+    refl refl h.2.script in
+    let body = document_is the_mark [] refl d.1 in
+    let end : span 4 7 ≡ body.0 = some_one body.3 in
+    true≢false (ap (λ l. is_ambiguous the_mark late_end_text 4 l) end ∙ body.4)
+
+pub tabbed_end_unread : IsUnread tabbed_end_text
+unfolding computes
+tabbed_end_unread t h =
+    let at : Redirection = record { number = None; operator = op.HereDocTabs; at = 0; end = 3 } in
+    let d = opening_document at true 4 (bare 3 4) refl refl refl refl
+    (λ u y w. let o = one_part_word sign.Plain (plain 3 4) 4 refl refl (λ v p q. q) refl refl w in (ap (λ v. past tabbed_end_text v (at_token 0 1 0)) o.0, o.1))
+    refl refl h.2.script in
+    let body = document_is tabs_mark [] refl d.1 in
+    let end : span 7 11 ≡ body.0 = some_one body.3 in
+    true≢false (ap (λ l. is_ambiguous tabs_mark tabbed_end_text 5 l) end ∙ body.4)
 
 -- In a substitution in a body
 

@@ -112,13 +112,6 @@ paired_document_script = lone (simple 1 0 (element.Redirection (redirect 0 None 
     (part.Command Paren (span 4 18) (lone (simple 2 6 (element.Redirection (redirect 6 None (Here (here_doc false (word 8 11
     (part.Single single.Plain (span 8 11) ∷ [])) (bare 12 15) (span 15 16)))) ∷ []))) ∷ plain 18 19 ∷ [])) (span 19 20)))) ∷ []))
 
--- a tab after a line continuation in an end line
-abbrev pub tabbed_end_text : List ℕ
-tabbed_end_text = codes "<<-E\nx\n\\\n\tE\n"
-
-abbrev pub tabbed_end_script : Script
-tabbed_end_script = lone (simple 1 0 (element.Redirection (redirect 0 None (Here (here_doc true (bare 3 4) (bare 5 7) (span 7 11)))) ∷ []))
-
 -- the tabs of lines in single quotes, in a pattern, belong to their part
 abbrev pub tabs_in_pattern_text : List ℕ
 tabs_in_pattern_text = codes "<<-E\n${x%'\n\tr'}\nE\n"
@@ -151,6 +144,5 @@ pub record DocumentsRead : Type 0 where
   pub paired_comment_read : Reads paired_comment_text paired_comment_script
   pub paired_quotes_read : Reads paired_quotes_text paired_quotes_script
   pub paired_document_read : Reads paired_document_text paired_document_script
-  pub tabbed_end_read : Reads tabbed_end_text tabbed_end_script
   pub tabs_in_pattern_read : Reads tabs_in_pattern_text tabs_in_pattern_script
   pub tabs_in_quotes_read : Reads tabs_in_quotes_text tabs_in_quotes_script

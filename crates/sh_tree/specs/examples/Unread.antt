@@ -62,6 +62,14 @@ across_text = codes "<<E $(\n)\nE\n"
 abbrev pub joined_tab_text : List ℕ
 joined_tab_text = codes "<<-E\n\\\n\ta\nE\n"
 
+-- an end line that begins with a line continuation
+abbrev pub late_end_text : List ℕ
+late_end_text = codes "<<E\n\\\nE\n"
+
+-- and with a tab after that
+abbrev pub tabbed_end_text : List ℕ
+tabbed_end_text = codes "<<-E\nx\n\\\n\tE\n"
+
 -- in a substitution in a body, whose lines are joined before it is read, or are not: a line
 -- continuation in a comment
 abbrev pub split_comment_text : List ℕ
@@ -93,6 +101,8 @@ pub record OthersUnread : Type 0 where
   pub dollar_delimiter : IsUnread dollar_delimiter_text
   pub across : IsUnread across_text
   pub joined_tab : IsUnread joined_tab_text
+  pub late_end : IsUnread late_end_text
+  pub tabbed_end : IsUnread tabbed_end_text
   pub split_comment : IsUnread split_comment_text
   pub split_quotes : IsUnread split_quotes_text
   pub split_end : IsUnread split_end_text

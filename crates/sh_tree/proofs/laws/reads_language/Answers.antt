@@ -2,8 +2,8 @@ use Rattle.sh_tree.proofs.LanguageLemmas.{quoted_reads, dollar_reads, double_rea
 use Rattle.sh_tree.proofs.UnreadLemmas.{open_quote_unread, open_braced_unread, split_name_unread, no_expression_unread, lone_bar_unread, split_operator_unread, clause_end_unread, open_document_unread, split_document_unread, tabbed_document_unread, unclosed_unread}
 use Rattle.sh_tree.proofs.WordReadings.{removed_prefix_reads, octal_reads, status_reads, quoted_default_reads, all_fields_reads, exported_reads, colon_in_double_reads, colon_in_arithmetic_reads, colon_in_pattern_reads}
 use Rattle.sh_tree.proofs.CommandReadings.{while_reads, for_ended_reads, for_none_reads, for_two_reads, case_lines_reads, patterns_reads, pattern_esac_reads, redirected_reads, numbered_reads, behind_assignment_reads}
-use Rattle.sh_tree.proofs.DocumentReadings.{verbatim_reads, two_documents_reads, group_document_reads, inner_document_reads, piped_document_reads, counted_document_reads, joined_end_reads, unended_line_reads, quiet_reads, paired_comment_reads, paired_quotes_reads, paired_document_reads, tabbed_end_reads, tabs_in_pattern_reads, tabs_in_quotes_reads}
-use Rattle.sh_tree.proofs.UnreadForms.{double_parenthesis_unread, negated_parenthesis_unread, double_bracket_unread, location_unread, dollar_single_unread, backquoted_unread, backslash_unread, quoted_backslash_unread, default_backquotes_unread, other_braced_unread, unsplit_unread, expanded_delimiter_unread, tilde_delimiter_unread, dollar_delimiter_unread, across_unread, joined_tab_unread, split_comment_unread, split_quotes_unread, split_end_unread}
+use Rattle.sh_tree.proofs.DocumentReadings.{verbatim_reads, two_documents_reads, group_document_reads, inner_document_reads, piped_document_reads, counted_document_reads, joined_end_reads, unended_line_reads, quiet_reads, paired_comment_reads, paired_quotes_reads, paired_document_reads, tabs_in_pattern_reads, tabs_in_quotes_reads}
+use Rattle.sh_tree.proofs.UnreadForms.{double_parenthesis_unread, negated_parenthesis_unread, double_bracket_unread, location_unread, dollar_single_unread, backquoted_unread, backslash_unread, quoted_backslash_unread, default_backquotes_unread, other_braced_unread, unsplit_unread, expanded_delimiter_unread, tilde_delimiter_unread, dollar_delimiter_unread, across_unread, joined_tab_unread, late_end_unread, tabbed_end_unread, split_comment_unread, split_quotes_unread, split_end_unread}
 use Rattle.sh_tree.proofs.LimitLemmas.{defaults_within, defaults_beyond, complements_within, complements_beyond, body_depth_reads}
 use Rattle.sh_tree.proofs.laws.reads_language.Goals as goal
 
@@ -94,7 +94,6 @@ returns-clause-documents c = record {
   paired_comment_read = paired_comment_reads;
   paired_quotes_read = paired_quotes_reads;
   paired_document_read = paired_document_reads;
-  tabbed_end_read = tabbed_end_reads;
   tabs_in_pattern_read = tabs_in_pattern_reads;
   tabs_in_quotes_read = tabs_in_quotes_reads;
 }
@@ -117,6 +116,8 @@ returns-clause-nothing c = record {
   dollar_delimiter = dollar_delimiter_unread;
   across = across_unread;
   joined_tab = joined_tab_unread;
+  late_end = late_end_unread;
+  tabbed_end = tabbed_end_unread;
   split_comment = split_comment_unread;
   split_quotes = split_quotes_unread;
   split_end = split_end_unread;

@@ -68,7 +68,7 @@ line_text joins (c ∷ d ∷ cs) =
     else c ∷ line_text joins (d ∷ cs)
 
 -- What is compared with the delimiter (XCU 2.7.4): the line at i without the tabs that `<<-`
--- strips. If the delimiter is unquoted, the line is joined, which the standard leaves open.
+-- strips. If the delimiter is unquoted, the line is joined. The standard leaves that open.
 unfoldable pub end_candidate : Mark → List ℕ → ℕ → List ℕ
 end_candidate m b i =
     let text = line_text (not m.quoted) (slice_range b i (line_end (not m.quoted) b i)) in
@@ -109,10 +109,18 @@ has_joined p (c ∷ d ∷ cs) = if is_backslash c then (is_newline d && p cs) ||
 abbrev pub is_split_text : List ℕ → Bool
 is_split_text t = has_joined (λ rest. true) t
 
--- a tab follows a line continuation in the body from i to e: shells differ in whether `<<-` strips
--- it (XCU 2.7.4)
-abbrev pub is_ambiguous : Mark → List ℕ → ℕ → ℕ → Bool
-is_ambiguous m b i e = m.strip && not m.quoted && has_joined (is_first is_tab) (slice_range b i e)
+-- the line begins with a backslash, or with a tab
+abbrev pub begins_late : List ℕ → Bool
+begins_late t = is_first is_backslash t || is_first is_tab t
+
+-- The body from i on, or the line l that ends it, is read in two ways (XCU 2.7.4). A tab follows a
+-- line continuation in the body: shells differ in whether `<<-` strips it. Or the end line begins
+-- with a continuation, perhaps after tabs: directly after one no delimiter is recognized, and most
+-- shells recognize it.
+abbrev pub is_ambiguous : Mark → List ℕ → ℕ → Span → Bool
+is_ambiguous m b i l =
+    (m.strip && not m.quoted && has_joined (is_first is_tab) (slice_range b i l.start))
+    || (not m.quoted && begins_late (text_of b l) && is_split_text (text_of b l))
 
 -- The lines of a here-document in the body of another are read in one way (XCU 2.7.4). In a joined
 -- body, a quoted delimiter keeps its lines: they hold no continuation. If tabs are stripped around

@@ -331,7 +331,7 @@ module _ (limit : ℕ) where
       no_body : {b : List ℕ} {s : State} → ReadsDocuments b [] s s
       -- {LINE} END_LINE {body}
       more_bodies : {b : List ℕ} {s v : State} {u : Spot} {m : Mark} {ms : List Mark} {l : Span} {ps : List Part}
-          → end_line m b s.spot.at ≡ Some l → is_ambiguous m b s.spot.at l.start ≡ false
+          → end_line m b s.spot.at ≡ Some l → is_ambiguous m b s.spot.at l ≡ false
           → keeps_document b s.spot.joins s.spot.tabs m (span s.spot.at (behind_line b l.end)) ≡ true
           → ReadsParts (take l.start b) (in_document_of m) 10 (in_document m s) u ps → keeps_lines b (not m.quoted) ps ≡ true
           → ReadsDocuments b ms (with_document (behind_line b l.end) (record { text = tree.word s.spot.at l.start ps; end = l }) u s) v
