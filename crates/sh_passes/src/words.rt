@@ -22,9 +22,7 @@ use sh_sweeps::known::{
     behind_action, behind_assigned, behind_operands, behind_word, operand_of, started_in,
 };
 use sh_sweeps::nowhere::before_if;
-use sh_sweeps::texts::{
-    elements_have_documents, goes_by_one, may_wait_in, place_of_text, redirects_have_documents,
-};
+use sh_sweeps::texts::{goes_by_one, may_wait_in, place_of_redirect, place_of_text};
 use sh_sweeps::waits::does_list_wait;
 use sh_tree::{
     Action, Binary, Element, Expr, Items, ParameterOperator, Part, Redirect, Script,
@@ -52,11 +50,10 @@ pub fn sweep_elements(
 {
     let behind = behind_operands(subject, &draft.certificate, elements, known);
     let mut inside = *known;
-    let has_documents = elements_have_documents(elements);
     let mut place = 0;
     while place < elements.len() {
-        let by_one = goes_by_one(has_documents, &inside, &behind);
-        let next = place_of_text(subject, &draft.waiting, by_one, elements, place);
+        let by_one = goes_by_one(&inside, &behind);
+        let next = place_of_redirect(subject, &draft.waiting, by_one, elements, place);
         if next == elements.len() {
             return Ok(());
         }
@@ -128,7 +125,7 @@ pub fn sweep_redirections(
     requires placed { IsPart subject.now (redirects_entered (at (Before number)) (redirects_from subject.now.script.now redirects.now)) }
     ensures swept { IfOk result (λ unit. IsSwept subject.now draft.old.certificate draft.new.certificate draft.new.probe.count) }
 {
-    if !is_in_redirects(redirects) {
+    if is_new && !is_in_redirects(redirects) {
         return Ok(());
     }
     let before = before_if(subject, &draft.certificate, number, is_new);
@@ -148,11 +145,10 @@ fn sweep_redirects(
     ensures swept { IfOk result (λ unit. IsSwept subject.now draft.old.certificate draft.new.certificate draft.new.probe.count) }
 {
     let mut inside = *known;
-    let has_documents = redirects_have_documents(redirects);
     let mut place = 0;
     while place < redirects.len() {
-        let by_one = goes_by_one(has_documents, &inside, &inside);
-        let next = place_of_text(subject, &draft.waiting, by_one, redirects, place);
+        let by_one = inside.is_reached();
+        let next = place_of_redirect(subject, &draft.waiting, by_one, redirects, place);
         if next == redirects.len() {
             return Ok(());
         }

@@ -88,30 +88,34 @@ fn start_of(expression: &Expr) -> u32 {
     0
 }
 
-fn is_document(redirect: &Redirect) -> bool {
-    matches!(redirect.target, Target::Here(_))
+/// A text that may be a redirection.
+pub trait MayRedirect: Text {
+    /// Whether it has a here-document, whose body is elsewhere in the script.
+    fn has_document(&self) -> bool;
 }
 
-/// Whether one of the redirections has a here-document, whose body is elsewhere in the script.
-pub fn redirects_have_documents(redirects: &[Redirect]) -> bool {
-    redirects.iter().any(|redirect| is_document(redirect))
+impl MayRedirect for Redirect {
+    fn has_document(&self) -> bool {
+        matches!(self.target, Target::Here(_))
+    }
 }
 
-/// Whether a redirection among the elements has a here-document.
-pub fn elements_have_documents(elements: &[Element]) -> bool {
-    elements.iter().any(|element| match element {
-        Element::Redirection(redirect) => is_document(redirect),
-        _ => false,
-    })
+impl MayRedirect for Element {
+    fn has_document(&self) -> bool {
+        match self {
+            Element::Redirection(redirect) => redirect.has_document(),
+            _ => false,
+        }
+    }
 }
 
-/// Whether a sweep goes over elements one by one, since something is known or some have documents.
+/// Whether a sweep goes over elements one by one, since something is known.
 #[tactic(auto, using(crate::proofs::KnownLemmas::unreached))]
-pub fn goes_by_one(has_documents: bool, known: &Knowledge, behind: &Knowledge) -> bool
+pub fn goes_by_one(known: &Knowledge, behind: &Knowledge) -> bool
     ensures known { result ≡ false → (names : List Bytes) → knowledge_facts names known.now ≡ NotReached }
     ensures behind { result ≡ false → (names : List Bytes) → knowledge_facts names behind.now ≡ NotReached }
 {
-    has_documents || known.is_reached() || behind.is_reached()
+    known.is_reached() || behind.is_reached()
 }
 
 // The last place from a place on of a text that begins at an offset or before it, or that place.
@@ -161,6 +165,27 @@ pub fn place_of_text<T: Text>(
     match waiting.next(first, u32::MAX) {
         Some(number) => place_at(texts, from, offset_of(subject, number)),
         None => texts.len(),
+    }
+}
+
+/// The place as of `place_of_text`, or that of a here-document before it.
+pub fn place_of_redirect<T: MayRedirect>(
+    subject: &Subject<'_>,
+    waiting: &Waiting,
+    by_one: bool,
+    texts: &[T],
+    from: usize,
+) -> usize
+    requires { from < length texts.now }
+    ensures from { from ≤ result }
+    ensures there { result ≤ length texts.now }
+    ensures known { by_one ≡ true → result ≡ from }
+{
+    let next = place_of_text(subject, waiting, by_one, texts, from);
+    let mut passed = texts[from..next].iter();
+    match passed.position(|text| text.has_document()) {
+        Some(count) => from + count,
+        None => next,
     }
 }
 

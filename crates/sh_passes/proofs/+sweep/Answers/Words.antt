@@ -35,10 +35,10 @@ sweep_elements-sweep_element-requires t c =
     let s = c.args.subject.now in
     let k = knowledge_facts s.names.now c.loop-place.inside in
     let b = knowledge_facts s.names.now c.behind_operands-behind.result in
-    let next = c.place_of_text-next.result in
-    let left = elements_left s k b c.goes_by_one-by_one.result c.args.elements.now c.loop-place.place next (λ none. c.goes_by_one-by_one.ensures.known none s.names.now) c.place_of_text-next.ensures.from c.place_of_text-next.ensures.known c.loop-place.invariant.placed in
+    let next = c.place_of_redirect-next.result in
+    let left = elements_left s k b c.goes_by_one-by_one.result c.args.elements.now c.loop-place.place next (λ none. c.goes_by_one-by_one.ensures.known none s.names.now) c.place_of_redirect-next.ensures.from c.place_of_redirect-next.ensures.known c.loop-place.invariant.placed in
     let here : AreElements s k b (elements_from s.script.now (c.index-elements-next.result ∷ drop (next + 1) c.args.elements.now)) =
-    subst (λ xs. AreElements s k b (elements_from s.script.now xs)) (at_index c.args.elements.now next c.index-elements-next.result (found_below next (length c.args.elements.now) c.place_of_text-next.ensures.there c.if-next-elements.false) c.index-elements-next.is) left in
+    subst (λ xs. AreElements s k b (elements_from s.script.now xs)) (at_index c.args.elements.now next c.index-elements-next.result (found_below next (length c.args.elements.now) c.place_of_redirect-next.ensures.there c.if-next-elements.false) c.index-elements-next.is) left in
     let ready : IsReady s c.loop-place.draft.certificate c.loop-place.draft.probe.count = ready_again s _ _ _ _ c.requires.ready c.loop-place.invariant.swept in
     let placed : (others : List Element) × AreElements s k b (elements_from s.script.now (c.index-elements-next.result ∷ others)) = (_, here) in
     search std_rules
@@ -48,10 +48,10 @@ sweep_elements-loop-place-preserved t c =
     let s = c.args.subject.now in
     let k = knowledge_facts s.names.now c.loop-place.inside in
     let b = knowledge_facts s.names.now c.behind_operands-behind.result in
-    let next = c.place_of_text-next.result in
-    let left = elements_left s k b c.goes_by_one-by_one.result c.args.elements.now c.loop-place.place next (λ none. c.goes_by_one-by_one.ensures.known none s.names.now) c.place_of_text-next.ensures.from c.place_of_text-next.ensures.known c.loop-place.invariant.placed in
+    let next = c.place_of_redirect-next.result in
+    let left = elements_left s k b c.goes_by_one-by_one.result c.args.elements.now c.loop-place.place next (λ none. c.goes_by_one-by_one.ensures.known none s.names.now) c.place_of_redirect-next.ensures.from c.place_of_redirect-next.ensures.known c.loop-place.invariant.placed in
     let here : AreElements s k b (elements_from s.script.now (c.index-elements-next.result ∷ drop (next + 1) c.args.elements.now)) =
-    subst (λ xs. AreElements s k b (elements_from s.script.now xs)) (at_index c.args.elements.now next c.index-elements-next.result (found_below next (length c.args.elements.now) c.place_of_text-next.ensures.there c.if-next-elements.false) c.index-elements-next.is) left in
+    subst (λ xs. AreElements s k b (elements_from s.script.now xs)) (at_index c.args.elements.now next c.index-elements-next.result (found_below next (length c.args.elements.now) c.place_of_redirect-next.ensures.there c.if-next-elements.false) c.index-elements-next.is) left in
     record { swept = swept_more s _ _ _ _ _ c.loop-place.invariant.swept c.in_ok-sweep_element.ensures.swept; placed = c.in_ok-sweep_element.ensures.passed _ here }
 
 pub sweep_element-sweep_word-requires : goal.words::sweep_element-sweep_word-requires
@@ -96,10 +96,10 @@ pub sweep_redirects-pass_target-requires : goal.words::sweep_redirects-pass_targ
 sweep_redirects-pass_target-requires t c =
     let s = c.args.subject.now in
     let k = knowledge_facts s.names.now c.loop-place.inside in
-    let next = c.place_of_text-next.result in
-    let left = redirects_left s k c.goes_by_one-by_one.result c.args.redirects.now c.loop-place.place next (λ none. c.goes_by_one-by_one.ensures.known none s.names.now) c.place_of_text-next.ensures.from c.place_of_text-next.ensures.known c.loop-place.invariant.placed in
+    let next = c.place_of_redirect-next.result in
+    let left = redirects_left s k c.is_reached-by_one.result c.args.redirects.now c.loop-place.place next (λ none. unreached k _ (c.is_reached-by_one.ensures s.names.now) none) c.place_of_redirect-next.ensures.from c.place_of_redirect-next.ensures.known c.loop-place.invariant.placed in
     let here : IsIn s (λ q. entries.redirects_entered q (redirects_from s.script.now (c.index-redirects-next.result ∷ drop (next + 1) c.args.redirects.now))) k =
-    subst (λ xs. IsIn s (λ q. entries.redirects_entered q (redirects_from s.script.now xs)) k) (at_index c.args.redirects.now next c.index-redirects-next.result (found_below next (length c.args.redirects.now) c.place_of_text-next.ensures.there c.if-next-redirects.false) c.index-redirects-next.is) left in
+    subst (λ xs. IsIn s (λ q. entries.redirects_entered q (redirects_from s.script.now xs)) k) (at_index c.args.redirects.now next c.index-redirects-next.result (found_below next (length c.args.redirects.now) c.place_of_redirect-next.ensures.there c.if-next-redirects.false) c.index-redirects-next.is) left in
     let ready : IsReady s c.loop-place.draft.certificate c.loop-place.draft.probe.count = ready_again s _ _ _ _ c.requires.ready c.loop-place.invariant.swept in
     let placed : IsIn s (λ q. entries.redirect_entered q (target_of s.script.now c.index-redirects-next.result.target)) k = redirect_placed s k c.index-redirects-next.result _ here in
     search std_rules
@@ -108,10 +108,10 @@ pub sweep_redirects-loop-place-preserved : goal.words::sweep_redirects-loop-plac
 sweep_redirects-loop-place-preserved t c =
     let s = c.args.subject.now in
     let k = knowledge_facts s.names.now c.loop-place.inside in
-    let next = c.place_of_text-next.result in
-    let left = redirects_left s k c.goes_by_one-by_one.result c.args.redirects.now c.loop-place.place next (λ none. c.goes_by_one-by_one.ensures.known none s.names.now) c.place_of_text-next.ensures.from c.place_of_text-next.ensures.known c.loop-place.invariant.placed in
+    let next = c.place_of_redirect-next.result in
+    let left = redirects_left s k c.is_reached-by_one.result c.args.redirects.now c.loop-place.place next (λ none. unreached k _ (c.is_reached-by_one.ensures s.names.now) none) c.place_of_redirect-next.ensures.from c.place_of_redirect-next.ensures.known c.loop-place.invariant.placed in
     let here : IsIn s (λ q. entries.redirects_entered q (redirects_from s.script.now (c.index-redirects-next.result ∷ drop (next + 1) c.args.redirects.now))) k =
-    subst (λ xs. IsIn s (λ q. entries.redirects_entered q (redirects_from s.script.now xs)) k) (at_index c.args.redirects.now next c.index-redirects-next.result (found_below next (length c.args.redirects.now) c.place_of_text-next.ensures.there c.if-next-redirects.false) c.index-redirects-next.is) left in
+    subst (λ xs. IsIn s (λ q. entries.redirects_entered q (redirects_from s.script.now xs)) k) (at_index c.args.redirects.now next c.index-redirects-next.result (found_below next (length c.args.redirects.now) c.place_of_redirect-next.ensures.there c.if-next-redirects.false) c.index-redirects-next.is) left in
     record {
       swept = swept_more s _ _ _ _ _ c.loop-place.invariant.swept c.in_ok-pass_target.ensures.swept;
       placed = redirects_next s k (knowledge_facts s.names.now c.pass_target.new.known) c.index-redirects-next.result _ c.in_ok-pass_target.ensures.gained here;
