@@ -8,6 +8,7 @@ ghost use Rattle.sh_demands.specs.Kept.{AreTold, IsTold};
 ghost use Rattle.sh_demands.specs.Reported.{Adds, AddsSince, HasReported, place};
 
 use indexmap::IndexSet;
+use sh_hash::NameHash;
 use sh_tree::{Code, Items, Place};
 use std::alloc::{AllocError, Global};
 use std::marker::Model;
@@ -24,12 +25,12 @@ pub struct Reports {
 }
 
 impl Reports {
-    /// No places.
-    pub fn new(alloc: Global) -> Reports
+    /// No places. The hash is that of the script's names.
+    pub fn new(alloc: Global, hash: NameHash) -> Reports
         ensures { HasReported result [] }
     {
         Reports {
-            places: Kept::new(alloc),
+            places: Kept::new(alloc, hash),
             is_short: false,
         }
     }
@@ -122,12 +123,12 @@ impl Model for Kept {
 }
 
 impl Kept {
-    fn new(alloc: Global) -> Kept
+    fn new(alloc: Global, hash: NameHash) -> Kept
         ensures { result.items ≡ [] }
     {
         Kept {
             places: Vec::new(alloc),
-            told: Subjects::new(alloc, 0),
+            told: Subjects::new(alloc, hash, 0),
         }
     }
 
@@ -171,18 +172,20 @@ impl Kept {
 // The subjects of so many places, from one on.
 #[derive(Drop)]
 struct Subjects {
-    subjects: IndexSet<Vec<u8>>,
+    subjects: IndexSet<Vec<u8>, NameHash>,
+    hash: NameHash,
     start: usize,
     count: usize,
 }
 
 impl Subjects {
-    fn new(alloc: Global, start: usize) -> Subjects
+    fn new(alloc: Global, hash: NameHash, start: usize) -> Subjects
         ensures start { result.start ≡ start }
         ensures told { (ps : List Place) → IsTold result ps }
     {
         Subjects {
-            subjects: IndexSet::new(alloc),
+            subjects: IndexSet::with_hasher(alloc, hash),
+            hash,
             start,
             count: 0,
         }
@@ -194,7 +197,7 @@ impl Subjects {
         ensures told { (ps : List Place) → IsTold self.old ps → IsTold self.new ps }
     {
         if self.start != start {
-            *self = Subjects::new(*self.subjects.allocator(), start);
+            *self = Subjects::new(*self.subjects.allocator(), self.hash, start);
         }
     }
 
