@@ -1,6 +1,6 @@
 -- What an arithmetic expression does, once the expansions in it are done: the names that it reads
--- and assigns. Each constant, name and operation takes its integer from the answers, so that
--- nothing here depends on the width of integers.
+-- and assigns, from left to right, which XCU 1.1.2.1 leaves open. Each constant, name and operation
+-- takes its integer from the answers, so that nothing here depends on the width of integers.
 -- POSIX.1-2024, XCU 1.1.2.1 (arithmetic precision and operations), 2.6.4 (arithmetic expansion).
 use Rattle.std.specs.Prelude.{Bool, false, not, if◌then◌else◌, Option, Some, None, ℤ}
 use Rattle.sh_tree.specs.declared.tree.Binary.{Binary}

@@ -93,8 +93,8 @@ next_preparation (Named t ts) first rs (x ∷ xs) = if first then ready else in_
 next_preparation Nameless first rs xs = in_any_order first rs xs
 next_preparation (Special t ts) first rs xs = in_any_order first rs xs
 
--- whether a redirection may be expanded in a copy: the standard says so without a command name
--- (XCU 2.9.1.3) and is silent on utilities and functions
+-- Whether a redirection may be expanded in a copy. The standard says so without a command name
+-- (XCU 2.9.1.3), and is silent on others. At special built-in utilities none is.
 unfoldable pub may_copy : Manner → Bool
 may_copy (Special t ts) = false
 may_copy _ = true
@@ -220,8 +220,8 @@ module _ (e : Environment) (f : Frame) (status : ℕ) (ws : List Work) (a : Answ
       let o = expanded in_one value in
       after_expansion o.state false (unless_ended o.state (assignment name o (Prepare k ts rs rest failed ∷ ws)))
 
-  -- the value of a prefix assignment: a copy may expand it, and nothing of the copy stays
-  -- (XCU 2.9.1.2)
+  -- the value of a prefix assignment: a copy may expand it, and nothing of the copy stays; if an
+  -- expansion ends it early, the process ends (XCU 2.9.1.2)
   abbrev pub kept : State → State
   kept s = record s { environment = if a.value_in_copy then e else s.environment }
 

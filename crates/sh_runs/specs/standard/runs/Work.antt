@@ -88,8 +88,8 @@ pub record Effect : Type 0 where
   pub unset : Bool
   -- it gives an expansion's value to splitting or pathname expansion that could change it
   pub split : Bool
-  -- it meets a value in arithmetic that is no integer constant. The empty value of a name is
-  -- computed with as zero.
+  -- it meets a value in arithmetic that is no integer constant. An empty or blank value of a name
+  -- is zero.
   pub strays : Bool
 
 -- a step without expansions: the process goes on

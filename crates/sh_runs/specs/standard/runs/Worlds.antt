@@ -40,8 +40,8 @@ unfoldable pub innermost : (ℕ → Frame) → List ℕ → Frame
 innermost frames [] = []
 innermost frames (n ∷ ns) = frames n
 
--- Waiting: a shell goes on when the parts that share its environment have ended (XCU 2.13). By
--- 2.9.2 it also waits for the last command, which no run relies on.
+-- Waiting: a shell goes on when the parts that share its environment have ended, which is a choice.
+-- By XCU 2.9.2 it waits for the last command, which no run relies on.
 
 -- the process is a part of p
 unfoldable pub is_part_of : ℕ → Option Process → Bool
