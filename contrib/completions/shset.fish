@@ -23,7 +23,7 @@ complete -c shset -f
 complete -c shset -n __fish_use_subcommand -a lint -d 'Prints what is wrong with a script, or that it is clean'
 complete -c shset -n __fish_use_subcommand -a cert -d 'Prints what is surely set at the start, in loops and round functions, as a certificate'
 complete -c shset -n __fish_use_subcommand -a check -d 'Prints what is wrong with a script by a certificate of it, or that it is clean'
-complete -c shset -n __fish_use_subcommand -a print -d 'Prints a script in one layout, without its comments'
+complete -c shset -n __fish_use_subcommand -a print -d 'Prints a script in one layout, without comments outside words'
 complete -c shset -n __fish_use_subcommand -s h -l help -d 'Print help'
 complete -c shset -n __fish_use_subcommand -s V -l version -d 'Print version'
 complete -c shset -n '__fish_seen_subcommand_from lint cert check' -l args -x -d 'At least how many positional parameters are set when the script starts; 0 if it is not given'

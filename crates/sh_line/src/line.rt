@@ -242,7 +242,7 @@ fn shset_command<'a>(alloc: Global) -> Result<Command<'a>, AllocError>
     let print = printing_command(
         alloc,
         "print",
-        "Prints a script in one layout, without its comments",
+        "Prints a script in one layout, without comments outside words",
     )?;
     command.subcommand(print)
 }

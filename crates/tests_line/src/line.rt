@@ -354,7 +354,7 @@ Commands:
   lint   Prints what is wrong with a script, or that it is clean
   cert   Prints what is surely set at the start, in loops and round functions, as a certificate
   check  Prints what is wrong with a script by a certificate of it, or that it is clean
-  print  Prints a script in one layout, without its comments
+  print  Prints a script in one layout, without comments outside words
 
 Options:
   -h, --help     Print help
