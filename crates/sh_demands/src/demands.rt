@@ -18,7 +18,6 @@ use crate::reports::Reports;
 use crate::shared::tell_shared;
 use crate::source::Source;
 use sh_domain::{Certificate, Names};
-use sh_hash::NameHash;
 use sh_table::CallTable;
 use sh_tree::{
     AndOr, Binary, Branch, Clause, Command, Element, Expr, Item, Kind, Link, ParameterOperator,
@@ -483,7 +482,7 @@ pub fn check_demands(
     ensures memory { IfErr result (λ _. (start : Facts) → 0 < length (demands start (kept_claims script.now tree.now names.now certificate.now) (script_of script.now tree.now))) }
 {
     let source = Source::new(names, certificate, calls, script);
-    let mut reports = Reports::new(alloc, NameHash::of(script));
+    let mut reports = Reports::new(alloc, names.hash());
     tell_script(false, tree, script, &source, &mut reports);
     reports.finish()
 }

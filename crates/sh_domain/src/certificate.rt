@@ -1,11 +1,10 @@
 //! Certificates: what is surely set before and after each command and each function.
-ghost use Rattle.std.specs.Prelude.{◌≡◌, ◌<◌, ◌-◌, [], nat_eq, slice_get};
+ghost use Rattle.std.specs.Prelude.{◌≡◌, ◌<◌, ◌-◌, nat_eq, slice_get};
 ghost use Rattle.std.specs.Option.{option_copied};
 ghost use Rattle.indexmap.specs.IndexMap.{get};
 
 use crate::rows::{RowId, Rows};
 use indexmap::IndexMap;
-use std::alloc::Global;
 
 /// What is surely set at a place.
 #[derive(Clone, Copy, Debug, PartialEq, Eq)]
@@ -57,22 +56,6 @@ pub struct Certificate {
 }
 
 impl Certificate {
-    /// A certificate of no commands and no functions, over so many names.
-    pub fn new(alloc: Global, count: u32) -> Certificate
-        ensures rows { result.rows.rows ≡ [] }
-        ensures count { result.rows.count ≡ count }
-        ensures entries { result.entries.items ≡ [] }
-        ensures heads { result.heads.entries ≡ [] }
-        ensures functions { result.functions.items ≡ [] }
-    {
-        Certificate {
-            rows: Rows::new(alloc, count),
-            entries: Vec::new(alloc),
-            heads: IndexMap::new(alloc),
-            functions: Vec::new(alloc),
-        }
-    }
-
     /// The facts round the command of a number, from 1.
     pub fn entry(&self, number: u32) -> Option<&Entry>
         requires { 0 < number }

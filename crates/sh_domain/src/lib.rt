@@ -29,5 +29,6 @@ pub use names::Names;
 pub use number_set::NumberSet;
 pub use numbered::precedes;
 pub use policy::{Policy, PolicyFault};
+pub use row_hasher::RowHash;
 pub use rows::{RowId, Rows};
 pub use rule::FlowRule;

@@ -48,13 +48,19 @@ impl NameSet {
         ensures { Numbers script.now tree.now policy.now result }
     {
         let seen = names_in(alloc, tree, script)?;
+        let declared = policy.names();
         let mut names = NameSet {
-            set: IndexSet::with_hasher(alloc, NameHash::of(script)),
+            set: IndexSet::with_hasher(alloc, NameHash::of(script, declared)),
         };
         names.add_texts(&[b"IFS", b"OPTIND", b"PPID", b"OPTARG", b"!"])?;
-        names.add_declared(policy.names())?;
+        names.add_declared(declared)?;
         names.add_seen(&seen)?;
         Ok(names)
+    }
+
+    /// What the names hash by.
+    pub fn hash(&self) -> NameHash {
+        *self.set.hasher()
     }
 
     /// How many names there are. No name is there twice.

@@ -8,6 +8,7 @@ ghost use Rattle.sh_domain.specs.Numbered.{pair_in};
 use crate::name_set::NameSet;
 use crate::numbered::in_byte_order;
 use crate::policy::Policy;
+use sh_hash::NameHash;
 use sh_tree::{MAX_NAMES, Refusal, Script};
 use std::alloc::Global;
 use std::marker::Model;
@@ -55,6 +56,11 @@ impl Names {
         let order = in_byte_order(alloc, &set)?;
         let job = set.number(b"!");
         Ok(Names { set, order, job })
+    }
+
+    /// What the names hash by. It is a hint: no answer depends on it.
+    pub fn hash(&self) -> NameHash {
+        self.set.hash()
     }
 
     /// How many names there are. No name is there twice.

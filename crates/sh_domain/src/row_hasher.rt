@@ -1,9 +1,12 @@
 //! The hash of rows.
-ghost use Rattle.std.specs.Prelude.{◌≡◌};
+ghost use Rattle.std.specs.Prelude.{◌≡◌, fold};
+ghost use Rattle.std.specs.Hash as fed;
+ghost use Rattle.std.specs.Hash.DefaultHasher as whole;
 ghost use Rattle.std.specs.Hash.FoldHasher as default;
 ghost use Rattle.sh_domain.specs.RowHash as spec;
 
-use std::hash::{FoldHasher, Hasher};
+use sh_hash::NameHash;
+use std::hash::{BuildHasher, DefaultHasher, FoldHasher, Hasher};
 
 const MULTIPLIER: u64 = 0x9e37_79b9_7f4a_7c15;
 
@@ -11,11 +14,44 @@ const MULTIPLIER: u64 = 0x9e37_79b9_7f4a_7c15;
 const TURN: u32 = 23;
 
 /// The kit's default hash, a word at a time, and the state that was before. By the default alone a
-/// word that equals the state takes it to 0, so whoever writes a certificate can have all rows
-/// collide.
-#[derive(Clone, Copy, Default)]
-pub(crate) struct RowHasher {
+/// word that equals the state takes it to 0.
+#[derive(Clone, Copy)]
+pub struct RowHasher {
     state: u64,
+}
+
+/// Makes hashers of rows. Each begins with a state that the hash of the names and all bytes of the
+/// certificate decide. So whoever writes rows that collide changes the state, and they collide no
+/// longer. It is a hint: no answer depends on it.
+#[derive(Clone, Copy)]
+pub struct RowHash {
+    initial: RowHasher,
+}
+
+impl RowHash {
+    /// For the rows of a certificate with this text, or of one that is sought, which has none.
+    pub fn of(names: NameHash, certificate: &[u8]) -> RowHash
+        ensures { result.initial.state ≡ whole.finish (whole.write (fold whole.write whole.initial (fed.u64 (default.finish names.initial))) certificate.now) }
+    {
+        let mut text = DefaultHasher::new();
+        text.write_u64(names.build_hasher().finish());
+        text.write(certificate);
+        RowHash {
+            initial: RowHasher {
+                state: text.finish(),
+            },
+        }
+    }
+}
+
+impl BuildHasher for RowHash {
+    type Hasher = RowHasher;
+
+    ghost build_hasher = { λ h. h.initial };
+
+    fn build_hasher(&self) -> RowHasher {
+        self.initial
+    }
 }
 
 // Eight bytes as a word, the lowest first, and the default hash of others.

@@ -4,11 +4,10 @@ ghost use Rattle.std.specs.Option.{option_copied};
 ghost use Rattle.sh_rows.specs.declared.bits.BitRow.{BitRow};
 ghost use Rattle.sh_domain.specs.KeptRows.{Stay, bits_of, holds_at};
 
-use crate::row_hasher::RowHasher;
+use crate::row_hasher::RowHash;
 use indexmap::IndexSet;
 use sh_rows::{BitRow, Row};
 use std::alloc::{AllocError, Global};
-use std::hash::BuildHasherDefault;
 use std::marker::Model;
 
 /// The place of a row among the rows of a certificate. Equal places are equal sets.
@@ -20,7 +19,7 @@ pub struct RowId {
 /// Rows of numbers below a count, each set kept once.
 #[derive(Debug, Drop)]
 pub struct Rows {
-    set: IndexSet<BitRow, BuildHasherDefault<RowHasher>>,
+    set: IndexSet<BitRow, RowHash>,
     count: u32,
 }
 
@@ -37,15 +36,20 @@ impl Model for Rows {
 }
 
 impl Rows {
-    /// No rows, of numbers below `count`.
-    pub fn new(alloc: Global, count: u32) -> Rows
+    /// No rows, of numbers below `count`. They hash by `hash`, on which no answer depends.
+    pub fn new(alloc: Global, count: u32, hash: RowHash) -> Rows
         ensures none { result.rows ≡ [] }
         ensures count { result.count ≡ count }
     {
         Rows {
-            set: IndexSet::with_hasher(alloc, BuildHasherDefault::new()),
+            set: IndexSet::with_hasher(alloc, hash),
             count,
         }
+    }
+
+    /// What the rows hash by.
+    pub fn hash(&self) -> RowHash {
+        *self.set.hasher()
     }
 
     /// How many rows there are.

@@ -255,7 +255,8 @@ pub fn begun(
     ensures probed { IfOk result (λ c. probe.new.count ≡ length subject.now.names.now) }
 {
     let count = subject.names.count();
-    let mut certificate = unreached(alloc, count, subject.commands, functions as usize)?;
+    let hash = subject.compact.rows.hash();
+    let mut certificate = unreached(alloc, count, hash, subject.commands, functions as usize)?;
     state_heads(subject, &mut certificate, probe, commands)?;
     state_functions(subject, &mut certificate, probe, functions)?;
     Ok(certificate)

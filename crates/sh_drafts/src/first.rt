@@ -9,7 +9,7 @@ ghost use Rattle.sh_drafts.specs.First.{AreHeads, ClaimsAll, DropsNothing, head_
 ghost use Rattle.sh_drafts.specs.Working.{IsWorking};
 
 use indexmap::IndexMap;
-use sh_domain::{Certificate, Drops, Entry, Facts, FunctionEntry, RowId, Rows, is_loop};
+use sh_domain::{Certificate, Drops, Entry, Facts, FunctionEntry, RowHash, RowId, Rows, is_loop};
 use sh_rows::{BitRow, Row};
 use sh_tree::Command;
 use std::alloc::{AllocError, Global};
@@ -64,6 +64,7 @@ pub fn no_names(alloc: Global, rows: &mut Rows, count: u32) -> Result<RowId, All
 pub fn unreached(
     alloc: Global,
     count: u32,
+    hash: RowHash,
     commands: &[&Command],
     functions: usize,
 ) -> Result<Certificate, AllocError>
@@ -72,7 +73,7 @@ pub fn unreached(
     ensures claims { IfOk result ClaimsAll }
     ensures drops { IfOk result DropsNothing }
 {
-    let mut rows = Rows::new(alloc, count);
+    let mut rows = Rows::new(alloc, count, hash);
     let none = no_names(alloc, &mut rows, count)?;
     let entry = Entry {
         before: Facts::NotReached,

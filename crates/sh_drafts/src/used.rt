@@ -23,7 +23,7 @@ fn none_used(alloc: Global, rows: &Rows) -> Result<Used, AllocError>
     let places = vec![in alloc; None; rows.len()]?;
     Ok(Used {
         alloc,
-        rows: Rows::new(alloc, rows.count()),
+        rows: Rows::new(alloc, rows.count(), rows.hash()),
         places,
     })
 }

@@ -13,7 +13,7 @@ use crate::compact_lines::{
 };
 use crate::reading::{read_certificate, read_facts, read_functions};
 use indexmap::IndexMap;
-use sh_domain::{Compact, Facts, Given, MAX_CERTIFICATE, Names, Rows, is_loop};
+use sh_domain::{Compact, Facts, Given, MAX_CERTIFICATE, Names, RowHash, Rows, is_loop};
 use sh_table::CallTable;
 use sh_tree::{Command, Refusal, Script, commands};
 use std::alloc::{AllocError, Global};
@@ -96,7 +96,7 @@ fn read_lines(
     if counts.loops as usize != numbers.len() {
         return Err(Refusal::CertShape);
     }
-    let mut rows = Rows::new(alloc, names.count());
+    let mut rows = Rows::new(alloc, names.count(), RowHash::of(names.hash(), text));
     let start = read_facts(alloc, names, &mut rows, start)?;
     let read = read_turns(alloc, names, &mut rows, &numbers, left)?;
     let first = 4 + counts.loops as u32;

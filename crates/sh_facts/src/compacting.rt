@@ -43,7 +43,7 @@ pub fn compact_of(
         → compact_claims (in_byte_order names) c ≡ compact_of_sheet (known_claim (in_byte_order names) start.now) (sheet_of (in_byte_order names) certificate.now)) }
     ensures sized { IfOk result (λ c. c.rows.count ≡ certificate.now.rows.count) }
 {
-    let mut rows = Rows::new(alloc, certificate.rows.count());
+    let mut rows = Rows::new(alloc, certificate.rows.count(), certificate.rows.hash());
     let start = keep_known(alloc, &mut rows, start)?;
     let heads = keep_heads(alloc, &mut rows, certificate)?;
     let functions = keep_functions(alloc, &mut rows, certificate)?;

@@ -14,7 +14,8 @@ use crate::lines::{after_counts, after_version, command_line, function_line, tes
 use crate::splits::first_piece;
 use indexmap::IndexMap;
 use sh_domain::{
-    Certificate, Drops, Entry, Facts, FunctionEntry, MAX_CERTIFICATE, Names, RowId, Rows, is_loop,
+    Certificate, Drops, Entry, Facts, FunctionEntry, MAX_CERTIFICATE, Names, RowHash, RowId, Rows,
+    is_loop,
 };
 use sh_rows::{BitRow, Row};
 use sh_table::CallTable;
@@ -75,7 +76,7 @@ fn read_lines(
     if counts.functions as usize != functions {
         return Err(Refusal::CertShape);
     }
-    let mut rows = Rows::new(alloc, names.count());
+    let mut rows = Rows::new(alloc, names.count(), RowHash::of(names.hash(), text));
     let read = read_commands(alloc, names, &mut rows, commands, left)?;
     let entries = read_functions(
         alloc,

@@ -14,7 +14,7 @@ ghost use Rattle.sh_drafts.specs.Turns.{sheet_by};
 ghost use Rattle.sh_drafts.specs.Working.{IsWorking};
 
 use indexmap::IndexMap;
-use sh_domain::{Certificate, Compact, Facts, Names, Policy, Rows, is_loop};
+use sh_domain::{Certificate, Compact, Facts, Names, Policy, RowHash, Rows, is_loop};
 use sh_drafts::{
     Draft, Subject, Target, Writable, patience_after, rest_after, rounds_after, tires_after,
     unreached,
@@ -149,7 +149,8 @@ fn settled(alloc: Global, subject: &Subject<'_>, way: Way) -> Result<(Certificat
     let _declared = subject.policy.names();
     let count = subject.names.count();
     let functions = subject.table.functions().len();
-    let certificate = unreached(alloc, count, subject.commands, functions)?;
+    let hash = subject.compact.rows.hash();
+    let certificate = unreached(alloc, count, hash, subject.commands, functions)?;
     let probe = BitRow::empty(alloc, count)?;
     let mut draft = Draft::new(alloc, certificate, probe, subject)?;
     settle(subject, &mut draft, way)?;
@@ -158,11 +159,11 @@ fn settled(alloc: Global, subject: &Subject<'_>, way: Way) -> Result<(Certificat
 }
 
 // A compact certificate that states nothing.
-fn nothing(alloc: Global) -> Compact {
+fn nothing(alloc: Global, names: &Names) -> Compact {
     Compact {
         commands: 0,
         start: Facts::NotReached,
-        rows: Rows::new(alloc, 0),
+        rows: Rows::new(alloc, 0, RowHash::of(names.hash(), &[])),
         heads: IndexMap::new(alloc),
         functions: Vec::new(alloc),
     }
@@ -185,7 +186,7 @@ fn searched(
 {
     let commands = commands(alloc, tree)?;
     let writable = Writable::of(names);
-    let compact = nothing(alloc);
+    let compact = nothing(alloc, names);
     let subject = Subject {
         script,
         policy,

@@ -45,7 +45,7 @@ impl Functions {
         ensures { result ≡ functions_in [] [] }
     {
         Functions {
-            names: IndexSet::with_hasher(alloc, NameHash::of(script)),
+            names: IndexSet::with_hasher(alloc, NameHash::of(script, &[])),
             definitions: Vec::new(alloc),
         }
     }

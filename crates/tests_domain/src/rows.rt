@@ -1,7 +1,9 @@
 //! What a certificate keeps: rows, each once, and facts by their numbers.
 ghost use Rattle.std.specs.Prelude.{◌≡◌, IfOk};
 
-use sh_domain::{Certificate, Drops, Entry, Facts, FunctionEntry, RowId, Rows};
+use indexmap::IndexMap;
+use sh_domain::{Certificate, Drops, Entry, Facts, FunctionEntry, RowHash, RowId, Rows};
+use sh_hash::NameHash;
 use sh_rows::{BitRow, Row};
 use std::alloc::{AllocError, Global};
 use std::test::Fail;
@@ -45,9 +47,14 @@ fn place_of(alloc: Global, rows: &mut Rows, numbers: &[u32]) -> Result<Option<Ro
     Ok(Some(id))
 }
 
+/// The hash of rows without a script or a certificate.
+fn hash() -> RowHash {
+    RowHash::of(NameHash::of(&[], &[]), &[])
+}
+
 #[test]
 fn kept_once(rt: HostRuntime) -> Result<(), Fail> {
-    let mut rows = Rows::new(rt.alloc(), COUNT);
+    let mut rows = Rows::new(rt.alloc(), COUNT, hash());
     for (numbers, index) in ROWS {
         let place = place_of(rt.alloc(), &mut rows, numbers)?;
         assert!(rt; place == Some(RowId { index: *index }));
@@ -63,7 +70,12 @@ const _: () = prove!(65_535 * size_of::<Entry>() <= 6 << 20);
 
 /// A certificate of one command, which is a loop, and of one function.
 fn one_of_each(alloc: Global, known: Facts) -> Result<Certificate, AllocError> {
-    let mut certificate = Certificate::new(alloc, COUNT);
+    let mut certificate = Certificate {
+        rows: Rows::new(alloc, COUNT, hash()),
+        entries: Vec::new(alloc),
+        heads: IndexMap::new(alloc),
+        functions: Vec::new(alloc),
+    };
     certificate.entries.push(Entry {
         before: known,
         zero: known,
