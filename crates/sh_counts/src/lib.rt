@@ -3,6 +3,7 @@
 
 mod bounded;
 mod circles;
+mod courses;
 mod equations;
 mod falling;
 mod order;

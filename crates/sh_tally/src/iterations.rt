@@ -51,7 +51,7 @@ impl Tally<'_> {
         let inner = (&*around).in_loop(number);
         let after = self.list(equations, &inner, head, body)?;
         self.bound(equations, turn, behind, Change::NONE)?;
-        let again = after.in_any_case(&self.places);
+        let again = after.in_any_case(&self.places, &*equations);
         self.bound(equations, turn, again, Change::NONE)?;
         self.leaves(equations, number, After::both(head))?;
         Ok(())

@@ -96,7 +96,7 @@ impl Tally<'_> {
         let left = tested.turned(*kind);
         let after = self.list(equations, &inner, left.zero, body)?;
         self.bound(equations, turn, inside, Change::NONE)?;
-        let again = after.in_any_case(&self.places);
+        let again = after.in_any_case(&self.places, &*equations);
         self.bound(equations, turn, again, Change::NONE)?;
         self.leaves(equations, number, After::both(left.nonzero))?;
         Ok(())
@@ -242,8 +242,8 @@ impl Tally<'_> {
         let mut left = After::both(Views::NONE);
         for clause in clauses {
             self.patterns(equations, known, clause.patterns.as_slice())?;
-            let fallen = left.in_any_case(&self.places);
-            let both = known.and(&self.places, fallen);
+            let fallen = left.in_any_case(&self.places, &*equations);
+            let both = known.and(&self.places, &*equations, fallen);
             left = self.clause(equations, around, number, both, clause)?;
         }
         self.leaves(equations, number, left)

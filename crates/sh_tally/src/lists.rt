@@ -67,7 +67,7 @@ impl Tally<'_> {
         ensures adds { IfOk result (λ after. (by : FlowRule) → Adds self.now (λ o. entries.list_entered (entries.item_rule (out-Item item.now).background by) (entries.item_around (out-Item item.now).background (walks.around self.now.script.now around.now)) (entries.item_seen (out-Item item.now).background (views.in_any_case o)) (trees.and_or_of self.now.script.now (out-Item item.now).list)) before equations.old equations.new) }
         ensures leaves { IfOk result (λ after. Leaves self.now (λ o. entries.item_after (views.in_any_case o) (out-Item item.now).background (trees.and_or_of self.now.script.now (out-Item item.now).list)) before after) }
     {
-        let known = before.in_any_case(&self.places);
+        let known = before.in_any_case(&self.places, &*equations);
         if !item.background {
             return self.and_or(equations, around, known, &item.list);
         }
@@ -129,13 +129,13 @@ impl Tally<'_> {
                 let after = self.pipe(equations, around, before.zero, pipe)?;
                 Ok(After {
                     zero: after.zero,
-                    nonzero: before.nonzero.and(&self.places, after.nonzero),
+                    nonzero: before.nonzero.and(&self.places, &*equations, after.nonzero),
                 })
             }
             Link::OrElse => {
                 let after = self.pipe(equations, around, before.nonzero, pipe)?;
                 Ok(After {
-                    zero: before.zero.and(&self.places, after.zero),
+                    zero: before.zero.and(&self.places, &*equations, after.zero),
                     nonzero: after.nonzero,
                 })
             }

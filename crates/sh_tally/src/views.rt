@@ -8,7 +8,7 @@ ghost use Rattle.sh_domain.specs.Views.{Both, Seen, Slot, after_command};
 ghost use Rattle.sh_tally.specs.Views.{Raised, RaisedView, See, SeeAfter, Sees, index_of};
 
 use crate::places::{Part, Places};
-use sh_counts::Count;
+use sh_counts::{Count, Equations};
 use sh_tree::LoopKind;
 
 /// What is known at a place, and then after expansions that leave at least so many parameters.
@@ -18,7 +18,8 @@ pub struct View {
     pub least: u16,
 }
 
-/// At most two views of what is known somewhere: those that claim the least counts.
+/// At most two views of what is known somewhere: the one that claims the least count, and of the
+/// others the one that may fall furthest.
 #[derive(Clone, Copy, Debug, PartialEq, Eq)]
 pub struct Views {
     pub first: Option<View>,
@@ -49,6 +50,11 @@ impl View {
         let args = places.args(self.source)?;
         Some(args.max(self.least))
     }
+
+    // The least to which its count falls if it is in a circle: a hint.
+    fn floor(self, equations: &Equations) -> u16 {
+        equations.floor(self.source).max(self.least)
+    }
 }
 
 // A view after expansions that leave at least so many parameters.
@@ -62,11 +68,43 @@ fn raised(view: Option<View>, least: u16) -> Option<View>
     }
 }
 
-// Whether a view claims less than another one: a hint.
-fn is_less(places: &Places<'_>, view: View, other: Option<View>) -> bool {
-    match other {
-        Some(other) => view.args(places) < other.args(places),
-        None => true,
+// Whether a view claims less than another one: a hint. If both claim the same, the one with the
+// lower floor may fall further.
+fn is_less(places: &Places<'_>, equations: &Equations, view: View, other: Option<View>) -> bool {
+    let Some(other) = other else {
+        return true;
+    };
+    let claimed = view.args(places);
+    let before = other.args(places);
+    if claimed == before {
+        view.floor(equations) < other.floor(equations)
+    } else {
+        claimed < before
+    }
+}
+
+// The one of two views that may fall further: a hint. Claims tell only if the floors are equal,
+// since a view that falls by more at each turn may have the higher floor.
+fn lower(
+    places: &Places<'_>,
+    equations: &Equations,
+    view: Option<View>,
+    other: Option<View>,
+) -> Option<View>
+    ensures { (functions : List Text) (q : Seen) → IfSome view (Sees functions q) → IfSome other (Sees functions q) → IfSome result (Sees functions q) }
+{
+    let Some(one) = view else {
+        return other;
+    };
+    let Some(two) = other else {
+        return view;
+    };
+    let floor = one.floor(equations);
+    let last = two.floor(equations);
+    if last < floor || (last == floor && two.args(places) < one.args(places)) {
+        other
+    } else {
+        view
     }
 }
 
@@ -98,8 +136,8 @@ impl Views {
         }
     }
 
-    // With one view more, if any run comes to its place and it claims less than one of these.
-    fn with(self, places: &Places<'_>, view: Option<View>) -> Views
+    // With one view more, if any run comes to its place and it is better than one of these.
+    fn with(self, places: &Places<'_>, equations: &Equations, view: Option<View>) -> Views
         ensures { (functions : List Text) (q : Seen) → See functions q self → IfSome view (Sees functions q) → See functions q result }
     {
         let Some(view) = view else {
@@ -108,30 +146,27 @@ impl Views {
         if view.args(places).is_none() || self.first == Some(view) {
             return self;
         }
-        if is_less(places, view, self.first) {
+        if is_less(places, equations, view, self.first) {
             return Views {
                 first: Some(view),
-                second: self.first,
+                second: lower(places, equations, self.first, self.second),
             };
         }
-        if is_less(places, view, self.second) {
-            return Views {
-                first: self.first,
-                second: Some(view),
-            };
+        Views {
+            first: self.first,
+            second: lower(places, equations, self.second, Some(view)),
         }
-        self
     }
 
     /// What both see.
-    pub fn and(self, places: &Places<'_>, other: Views) -> Views
+    pub fn and(self, places: &Places<'_>, equations: &Equations, other: Views) -> Views
         ensures { (functions : List Text) (q : Seen) → See functions q self → See functions q other → See functions q result }
     {
         Views::NONE
-            .with(places, self.first)
-            .with(places, self.second)
-            .with(places, other.first)
-            .with(places, other.second)
+            .with(places, equations, self.first)
+            .with(places, equations, self.second)
+            .with(places, equations, other.first)
+            .with(places, equations, other.second)
     }
 }
 
@@ -187,9 +222,9 @@ impl After {
     }
 
     /// What is known after any status.
-    pub fn in_any_case(self, places: &Places<'_>) -> Views
+    pub fn in_any_case(self, places: &Places<'_>, equations: &Equations) -> Views
         ensures { (functions : List Text) (o : views.After) → SeeAfter functions o self → See functions (views.in_any_case o) result }
     {
-        self.zero.and(places, self.nonzero)
+        self.zero.and(places, equations, self.nonzero)
     }
 }
