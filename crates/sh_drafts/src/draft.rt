@@ -7,6 +7,23 @@ use sh_rows::BitRow;
 use sh_worklist::Waiting;
 use std::alloc::{AllocError, Global};
 
+/// How often so far something fell, a command was entered with less, and one was looked at that
+/// waited. A subshell leaves no traces, and a part of a pipeline or an asynchronous list no falls.
+#[derive(Clone, Copy, Debug, PartialEq, Eq)]
+pub struct Traces {
+    pub falls: u64,
+    pub entries: u64,
+    pub looks: u64,
+}
+
+impl Traces {
+    const NONE: Traces = Traces {
+        falls: 0,
+        entries: 0,
+        looks: 0,
+    };
+}
+
 /// A certificate that is lowered, and a row by which the rows of others are looked up. So a row
 /// that is there takes no memory.
 #[derive(Drop)]
@@ -17,6 +34,8 @@ pub struct Draft {
     pub probe: BitRow,
     /// How often it was lowered so far: a hint.
     pub lowered: u64,
+    /// What may be new to what comes next: a hint.
+    pub traces: Traces,
     /// How often nothing fell at a place except its count of parameters: a hint.
     pub counted: u64,
     /// If counts fell more often than this, they are solved apart: a hint.
@@ -175,6 +194,7 @@ impl Draft {
             certificate,
             probe,
             lowered: 0,
+            traces: Traces::NONE,
             counted: 0,
             rest: rest_after(0, commands),
             is_count: false,

@@ -23,7 +23,7 @@ mod wakes;
 mod writable;
 
 pub use assured::{lower_assured, lower_at};
-pub use draft::{Draft, Size, patience_after, rest_after, rounds_after, tires_after};
+pub use draft::{Draft, Size, Traces, patience_after, rest_after, rounds_after, tires_after};
 pub use first::unreached;
 pub use place::{Part, Place};
 pub use sight::Sight;

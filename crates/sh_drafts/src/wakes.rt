@@ -114,6 +114,7 @@ pub fn note_place(
         return Ok(());
     }
     draft.lowered = draft.lowered.saturating_add(1);
+    draft.traces.falls = draft.traces.falls.saturating_add(1);
     let now = facts_at(&draft.certificate, place);
     draft.is_count = now != before && rows_of(now) == rows_of(before);
     draft.counted = draft.counted.saturating_add(u64::from(draft.is_count));

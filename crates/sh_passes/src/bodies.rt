@@ -1,6 +1,7 @@
 //! The bodies of functions are units of their own, and the commands outside of them are another
 //! (XCU 2.9.5).
 ghost use Rattle.std.specs.Prelude.{◌≡◌, ℕ, false, Some, IfOk, IfSome};
+ghost use Rattle.sh_tree.specs.declared.tree.Script.{out-Script};
 ghost use Rattle.sh_tree.specs.standard.Tree.{text_of};
 ghost use Rattle.sh_tree.specs.standard.program.Syntax as p;
 ghost use Rattle.sh_tree.specs.standard.program.Trees as trees;
@@ -15,16 +16,18 @@ ghost use Rattle.sh_domain.specs.Sheets.{Sheet};
 ghost use Rattle.sh_domain.specs.Views.{Seen};
 ghost use Rattle.sh_rules.specs.Places.{slot_of};
 ghost use Rattle.sh_drafts.specs.Places.{claim_there, place_of};
-ghost use Rattle.sh_sweeps.specs.Sweeps.{IsPart};
+ghost use Rattle.sh_sweeps.specs.Sweeps.{AreItems, IsPart, known_behind};
 ghost use Rattle.sh_drafts.specs.Ready.{IsReady, IsSwept, Keeps};
 
+use crate::own::is_entered;
 use crate::sweep::{LEVELS, sweep_definition, sweep_items};
 use sh_domain::{Certificate, FlowRule, Knowledge};
 use sh_drafts::{Draft, Place, Subject, enter_function, lower_assured};
-use sh_rules::{Around, Place as Slot, alone, begun};
+use sh_rules::{Around, Course, Place as Slot, alone, begun};
 use sh_sweeps::known::{nonzero_of, zero_of};
+use sh_sweeps::nowhere::nothing_behind;
 use sh_sweeps::{claims_of, spot_of};
-use sh_tree::{Command, Kind, Span};
+use sh_tree::{Command, Item, Kind, Span};
 use sh_worklist::Unit;
 use std::alloc::AllocError;
 
@@ -121,7 +124,9 @@ fn sweep_function(
     }
     draft.waiting.units.begin(number)?;
     let outer = draft.waiting.enter_body(number);
+    let traces = draft.traces;
     sweep_defined(subject, draft, levels, commands[index])?;
+    draft.traces = traces;
     draft.waiting.leave(outer);
     draft.waiting.units.end(number)
 }
@@ -212,13 +217,39 @@ fn sweep_body(
     Ok(())
 }
 
+// Whether a pass has noted what is known where the script starts: a hint.
+fn is_start_noted(draft: &Draft, items: &[Item]) -> bool {
+    let parts = match items {
+        [item, ..] => item.list.first.parts.as_slice(),
+        [] => &[],
+    };
+    match parts {
+        [command, ..] => is_entered(draft, command),
+        [] => false,
+    }
+}
+
+// Where the commands outside of functions begin. What is known there is noted once.
+fn from_start(subject: &Subject<'_>, draft: &Draft) -> Course
+    requires { IsReady subject.now draft.now.certificate draft.now.probe.count }
+    ensures { AreItems subject.now result.by entries.alone (known_behind subject.now result.behind) (out-Script subject.now.tree.now).items }
+{
+    if is_start_noted(draft, subject.tree.items.as_slice()) {
+        return Course {
+            by: FlowRule::F1,
+            behind: nothing_behind(),
+        };
+    }
+    let start = subject.start();
+    begun(FlowRule::F1, &start)
+}
+
 // Lowers the certificate at the commands outside of functions.
 fn sweep_outside(subject: &Subject<'_>, draft: &mut Draft) -> Result<(), AllocError>
     requires { IsReady subject.now draft.old.certificate draft.old.probe.count }
     ensures { IfOk result (λ unit. IsSwept subject.now draft.old.certificate draft.new.certificate draft.new.probe.count) }
 {
-    let start = subject.start();
-    let mut course = begun(FlowRule::F1, &start);
+    let mut course = from_start(subject, &*draft);
     let outside = alone();
     let items = subject.tree.items.as_slice();
     sweep_items(subject, draft, LEVELS, &outside, &mut course, items)

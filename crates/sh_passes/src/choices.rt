@@ -75,7 +75,7 @@ fn sweep_branches(
     let mut place = 0;
     while place < branches.len() {
         let is_known = known.is_reached();
-        let next = place_of_news(&draft.waiting, is_known, branches, place);
+        let next = place_of_news(subject, &draft.waiting, is_known, branches, place);
         if next == branches.len() {
             return Ok(());
         }
@@ -170,7 +170,7 @@ fn sweep_clauses(
     let mut place = 0;
     while place < clauses.len() {
         let is_known = is_any_known(behind, &fallen);
-        let next = place_of_news(&draft.waiting, is_known, clauses, place);
+        let next = place_of_news(subject, &draft.waiting, is_known, clauses, place);
         if next == clauses.len() {
             return Ok(());
         }

@@ -13,7 +13,7 @@ use sh_domain::FlowRule;
 use sh_drafts::{Draft, Subject};
 use sh_rules::{Around, Behind};
 use sh_sweeps::nowhere::{link_if, nothing_behind};
-use sh_sweeps::waits::{Member, next_place};
+use sh_sweeps::waits::next_place;
 use sh_tree::{Link, Pipe};
 use std::alloc::AllocError;
 
@@ -68,7 +68,7 @@ fn next_link(
     if behind.at_link(link).is_reached() {
         return place;
     }
-    let waits = next_place(&draft.waiting, links, place).unwrap_or(links.len());
+    let waits = next_place(subject, &draft.waiting, links, place).unwrap_or(links.len());
     pass_links(subject, draft, behind, links, place, waits)
 }
 
@@ -118,7 +118,7 @@ pub fn sweep_links_again(
     ensures swept { IfOk result (λ unit. IsSwept subject.now draft.old.certificate draft.new.certificate draft.new.probe.count) }
 {
     for _round in 0..u32::MAX {
-        if next_place(&draft.waiting, links, 0).is_none() {
+        if next_place(subject, &draft.waiting, links, 0).is_none() {
             return Ok(());
         }
         let mut behind = nothing_behind();
@@ -144,10 +144,9 @@ fn sweep_link(
         → AreLinks subject.now (walks.around subject.now.script.now around.now) (known_behind subject.now behind.old) (link.now ∷ others)
         → AreLinks subject.now (walks.around subject.now.script.now around.now) (known_behind subject.now behind.new) others) }
 {
-    let waits = link.waits(&draft.waiting);
-    let before = draft.lowered;
+    let before = draft.traces;
     enter_link(subject, draft, levels, around, &*behind, link)?;
-    let is_new = waits || draft.lowered != before;
+    let is_new = draft.traces != before;
     link_if(subject, &draft.certificate, behind, link, is_new);
     Ok(())
 }

@@ -1,7 +1,9 @@
-//! How long a look at a command takes, and whether it has words that hold another: hints.
+//! How long a look at a command takes, what traces it leaves, and whether the command has words
+//! that hold another: hints.
 
-use sh_drafts::Subject;
+use sh_drafts::{Subject, Traces};
 use sh_tree::{Clause, Command, Element, Kind, Target};
+use sh_worklist::Look;
 
 // So many bytes of words take as long as a short command.
 const BYTES: u32 = 32;
@@ -15,6 +17,15 @@ pub fn looks_of(command: &Command) -> u64 {
     let pieces = pieces_of(&command.kind).saturating_add(command.redirects.as_slice().len());
     1u64.saturating_add((bytes / BYTES) as u64)
         .saturating_add((pieces / PIECES) as u64)
+}
+
+/// The traces after a look at a command, which may be entered with less.
+pub fn traced(traces: Traces, look: Look, has_fallen: bool) -> Traces {
+    Traces {
+        falls: traces.falls,
+        entries: traces.entries.saturating_add(u64::from(has_fallen)),
+        looks: traces.looks.saturating_add(u64::from(look.own)),
+    }
 }
 
 /// Whether the next command begins in the words of this one. One in a here-document may come later.

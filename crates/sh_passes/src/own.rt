@@ -185,7 +185,7 @@ pub fn lower_command(
     Ok(())
 }
 
-/// Lowers what is claimed at each turn of a loop.
+/// Lowers what is claimed at each turn of a loop, if something is new there.
 ///
 /// # Errors
 ///
@@ -197,12 +197,13 @@ pub fn lower_head(
     around: &Around<'_>,
     known: &Knowledge,
     command: &Command,
+    is_new: bool,
 ) -> Result<(), AllocError>
     requires ready { IsReady subject.now draft.old.certificate draft.old.probe.count }
     requires placed { IsCommand subject.now by (walks.around subject.now.script.now around.now) (knowledge_facts subject.now.names.now known.now) command.now }
     ensures swept { IfOk result (λ unit. IsSwept subject.now draft.old.certificate draft.new.certificate draft.new.probe.count) }
 {
-    if !is_loop(command) {
+    if !is_new || !is_loop(command) {
         return Ok(());
     }
     let index = index_of(command);

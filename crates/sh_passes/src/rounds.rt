@@ -51,12 +51,14 @@ pub fn sweep_rounds(
     ensures swept { IfOk result (λ unit. IsSwept subject.now draft.old.certificate draft.new.certificate draft.new.probe.count) }
 {
     let is_once = is_passed_once(&*draft, around, command.number);
-    lower_head(subject, draft, by, around, known, command)?;
+    lower_head(subject, draft, by, around, known, command, is_new)?;
     let mut rounds = 0;
     for _round in 0..u32::MAX {
         let before = draft.size_at_turns(command.number);
+        let falls = draft.traces.falls;
         sweep_inside(subject, draft, levels, around, command, is_new)?;
-        lower_head(subject, draft, by, around, known, command)?;
+        let has_fallen = is_new || draft.traces.falls != falls;
+        lower_head(subject, draft, by, around, known, command, has_fallen)?;
         let after = draft.size_at_turns(command.number);
         if after == before {
             return Ok(());

@@ -1,6 +1,6 @@
 //! A sweep of the search over the commands of a list. It lowers each command where it comes to it,
 //! before those after it (XCU 2.9).
-ghost use Rattle.std.specs.Prelude.{◌∷◌, ◌<◌, ◌≤◌, ◌-◌, ℕ, List, true, length, take, drop, IfOk};
+ghost use Rattle.std.specs.Prelude.{◌≡◌, ◌∷◌, ◌<◌, ◌≤◌, ◌-◌, ℕ, List, true, length, take, drop, IfOk};
 ghost use Rattle.sh_tree.specs.standard.Tree.{text_of};
 ghost use Rattle.sh_tree.specs.declared.tree.Item as tree;
 ghost use Rattle.sh_tree.specs.Lists.{items_from};
@@ -19,7 +19,7 @@ ghost use Rattle.sh_drafts.specs.Ready.{IsReady, IsSwept};
 use crate::bodies::{is_called_again, sweep_called};
 use crate::choices::{sweep_case, sweep_cond};
 use crate::links::{sweep_links, sweep_links_again};
-use crate::looks::is_before_next;
+use crate::looks::{is_before_next, traced};
 use crate::own::{is_entered, lower_behind, lower_command};
 use crate::rounds::sweep_rounds;
 use crate::words::{sweep_elements, sweep_for_words, sweep_redirections};
@@ -105,7 +105,7 @@ fn pass_idle(
     if news == News::Anything {
         return carry_over(subject, draft, course, items, place);
     }
-    let waits = next_place(&draft.waiting, items, place).unwrap_or(items.len() - 1);
+    let waits = next_place(subject, &draft.waiting, items, place).unwrap_or(items.len() - 1);
     if news == News::Nothing {
         leave_all(course, &items[place..waits]);
         return waits;
@@ -132,24 +132,27 @@ fn sweep_or_pass(
     ensures swept { IfOk result (λ news. IsSwept subject.now draft.old.certificate draft.new.certificate draft.new.probe.count) }
     ensures passed { IfOk result (λ news. IsPassed subject.now course.old course.new item.now) }
 {
-    let waits = item.waits(&draft.waiting);
+    let waits = item.waits(subject, &draft.waiting);
     if news.passes(item) && !waits {
         pass_by(subject, &*draft, course, news, item);
         return Ok(news.after(item, draft.has_jobs));
     }
-    let before = draft.lowered;
+    let before = draft.traces;
     enter_item(subject, draft, levels, around, &*course, item)?;
-    let news = if draft.lowered == before {
-        news.after(item, draft.has_jobs)
-    } else {
+    let traces = draft.traces;
+    let waited = traces.looks != before.looks;
+    let has_fallen = traces.falls != before.falls || traces.entries != before.entries;
+    let news = if has_fallen {
         News::Anything
+    } else {
+        news.after(item, draft.has_jobs)
     };
     // If all wait after a turn, what the turn lowered is new to those that come next.
     pass_by(
         subject,
         &*draft,
         course,
-        if waits { News::Anything } else { news },
+        if waited { News::Anything } else { news },
         item,
     );
     Ok(news)
@@ -204,6 +207,7 @@ fn enter_process(
 {
     let inside = started_in(subject, &draft.certificate, known);
     let outside = alone();
+    let falls = draft.traces.falls;
     sweep_and_or(
         subject,
         draft,
@@ -212,7 +216,9 @@ fn enter_process(
         &outside,
         &inside,
         list,
-    )
+    )?;
+    draft.traces.falls = falls;
+    Ok(())
 }
 
 #[cycle(sweep)]
@@ -229,13 +235,12 @@ fn sweep_and_or(
     requires placed { IsAndOr subject.now by (walks.around subject.now.script.now around.now) (knowledge_facts subject.now.names.now known.now) list.now }
     ensures swept { IfOk result (λ unit. IsSwept subject.now draft.old.certificate draft.new.certificate draft.new.probe.count) }
 {
-    let waits = list.first.waits(&draft.waiting);
-    let before = draft.lowered;
+    let before = draft.traces;
     sweep_pipe(subject, draft, levels, by, around, known, &list.first)?;
     let links = list.rest.as_slice();
     let is_joined = known.is_reached() && list.first.parts.as_slice().len() != 1;
-    let is_new = waits || draft.lowered != before || is_joined;
-    if links.is_empty() || (!is_new && next_place(&draft.waiting, links, 0).is_none()) {
+    let is_new = draft.traces != before || is_joined;
+    if links.is_empty() || (!is_new && next_place(subject, &draft.waiting, links, 0).is_none()) {
         return Ok(());
     }
     let mut behind = pipe_if(subject, &draft.certificate, known, &list.first, is_new);
@@ -285,7 +290,10 @@ fn sweep_processes(
 {
     let inner = around.round_parts();
     let seen = started_in(subject, &draft.certificate, known);
-    sweep_parts(subject, draft, levels, FlowRule::F12, &inner, &seen, parts)
+    let falls = draft.traces.falls;
+    sweep_parts(subject, draft, levels, FlowRule::F12, &inner, &seen, parts)?;
+    draft.traces.falls = falls;
+    Ok(())
 }
 
 #[cycle(sweep)]
@@ -305,7 +313,7 @@ fn sweep_parts(
     let mut place = 0;
     while place < parts.len() {
         let is_known = known.is_reached();
-        let next = place_of_news(&draft.waiting, is_known, parts, place);
+        let next = place_of_news(subject, &draft.waiting, is_known, parts, place);
         if next == parts.len() {
             return Ok(());
         }
@@ -374,14 +382,16 @@ fn sweep_looked(
     if !is_reached && !look.inner && is_simple(&command.kind) {
         return Ok(());
     }
-    let before = draft.lowered;
+    let before = draft.traces.falls;
     lower_before(subject, draft, known, command)?;
-    let is_new = look.own || draft.lowered != before;
+    let has_fallen = draft.traces.falls != before;
+    draft.traces = traced(draft.traces, look, has_fallen);
+    let is_new = look.own || has_fallen;
     if !is_new && !look.inner {
         return Ok(());
     }
     if is_simple(&command.kind) {
-        let is_inside = look.inner || draft.lowered != before;
+        let is_inside = look.inner || has_fallen;
         let is_new = is_new && is_reached;
         sweep_simple(
             subject, draft, levels, by, around, known, command, is_new, is_inside,
@@ -468,13 +478,13 @@ fn sweep_compound(
     requires placed { IsCommand subject.now by (walks.around subject.now.script.now around.now) (knowledge_facts subject.now.names.now known.now) command.now }
     ensures swept { IfOk result (λ unit. IsSwept subject.now draft.old.certificate draft.new.certificate draft.new.probe.count) }
 {
-    if !is_new && !do_lists_wait(&draft.waiting, &command.kind) {
+    if !is_new && !do_lists_wait(subject, &draft.waiting, &command.kind) {
         return sweep_inside(subject, draft, levels, around, command, is_new);
     }
-    let before = draft.lowered;
+    let before = draft.traces.falls;
     sweep_rounds(subject, draft, levels, by, around, known, command, is_new)?;
     sweep_again(subject, draft, levels, around, command, outer)?;
-    if !is_new && draft.lowered == before {
+    if !is_new && draft.traces.falls == before {
         return Ok(());
     }
     lower_behind(subject, draft, by, around, known, command)?;
@@ -688,6 +698,7 @@ fn sweep_subshell(
 {
     let outside = alone();
     let known = process_of(subject, &draft.certificate, number);
+    let traces = draft.traces;
     sweep_list(
         subject,
         draft,
@@ -696,7 +707,9 @@ fn sweep_subshell(
         FlowRule::F11,
         &known,
         list,
-    )
+    )?;
+    draft.traces = traces;
+    Ok(())
 }
 
 /// Lowers the certificate in the body of a function.

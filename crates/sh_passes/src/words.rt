@@ -22,8 +22,8 @@ use sh_sweeps::known::{
     behind_action, behind_assigned, behind_operands, behind_word, operand_of, started_in,
 };
 use sh_sweeps::nowhere::before_if;
-use sh_sweeps::texts::{goes_by_one, may_wait_in, place_of_redirect, place_of_text};
-use sh_sweeps::waits::does_list_wait;
+use sh_sweeps::texts::{goes_by_one, place_of_redirect, place_of_text};
+use sh_sweeps::waits::{does_list_wait, may_wait_in};
 use sh_tree::{
     Action, Binary, Element, Expr, Items, ParameterOperator, Part, Redirect, Script,
     Subject as Parameter, Target, Word,
@@ -402,7 +402,7 @@ fn sweep_substitution(
     requires placed { (offset : ℕ) × IsIn subject.now (λ q. part_entered q (p.Substitution offset (script_of subject.now.script.now list.now))) (knowledge_facts subject.now.names.now known.now) }
     ensures swept { IfOk result (λ unit. IsSwept subject.now draft.old.certificate draft.new.certificate draft.new.probe.count) }
 {
-    if !known.is_reached() && !does_list_wait(&draft.waiting, list) {
+    if !known.is_reached() && !does_list_wait(subject, &draft.waiting, list) {
         return Ok(());
     }
     enter_substitution(subject, draft, levels, known, list)
@@ -422,7 +422,10 @@ fn enter_substitution(
 {
     let outside = alone();
     let seen = started_in(subject, &draft.certificate, known);
-    sweep_list(subject, draft, levels, &outside, FlowRule::F11, &seen, list)
+    let traces = draft.traces;
+    sweep_list(subject, draft, levels, &outside, FlowRule::F11, &seen, list)?;
+    draft.traces = traces;
+    Ok(())
 }
 
 #[cycle(sweep)]

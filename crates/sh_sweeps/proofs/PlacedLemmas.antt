@@ -157,6 +157,17 @@ module _ (s : Subject) where
         knows = λ other keeps. (stays_above gathering).start s.names.now (start_of s) (claims_in s.script.now s.tree.now other);
       }))
 
+  -- the same where nothing is known
+  pub start_unknown : (at : Course) → at.by ≡ F1 → ((o : After) → KnowsBehind s o (known_behind s at.behind)) → AreItems s at.by e.alone (known_behind s at.behind) (out-Script s.tree.now).items
+  unfolding e.script_entered
+  start_unknown at by unknown =
+      subst (λ f. AreItems s f e.alone (known_behind s at.behind) (out-Script s.tree.now).items) (sym by)
+      (record {
+        seen = Both at_start;
+        part = record { front = []; back = []; whole = ap (e.items_entered F1 e.alone (Both at_start)) (rules.script_of-out s.script.now s.tree.now) ∙ sym (append-nil _) };
+        knows = unknown (Both at_start);
+      })
+
   pub both_known : (q : Seen) (k : Facts) (b : Behind) → b ≡ both k → Knows s q k → KnowsBehind s (Both q) b
   unfolding if_zero if_nonzero
   both_known q k b is knows = subst (KnowsBehind s (Both q)) (sym is) (λ other keeps. record { zero = knows other keeps; nonzero = knows other keeps })

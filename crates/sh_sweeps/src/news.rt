@@ -57,10 +57,14 @@ impl News {
     /// How many looks it took to go on after these items: those over which what is known was
     /// carried are looks too, and so are those after the last that settles what is known.
     pub fn looks_at(self, items: &[Item]) -> u64 {
-        if self == News::Anything {
-            return items.len() as u64;
-        }
-        let settled = items.iter().rev().position(|item| is_settled(item));
-        settled.unwrap_or(items.len()) as u64
+        let count = match self {
+            News::Nothing => 0,
+            News::Job => {
+                let settled = items.iter().rev().position(|item| is_settled(item));
+                settled.unwrap_or(items.len())
+            }
+            News::Anything => items.len(),
+        };
+        count as u64
     }
 }

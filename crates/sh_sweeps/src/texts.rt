@@ -5,17 +5,14 @@ ghost use Rattle.sh_tree.specs.standard.program.Syntax.{Text as Bytes};
 ghost use Rattle.sh_domain.specs.Facts.{NotReached};
 ghost use Rattle.sh_domain.specs.Knowledge.{knowledge_facts};
 
-use crate::waits::may_wait_in_word;
+use crate::waits::{next_between, number_at};
 use sh_domain::Knowledge;
 use sh_drafts::Subject;
-use sh_tree::{Binary, Element, Expr, Part, Redirect, Target, Word};
+use sh_tree::{Binary, Element, Expr, Part, Redirect, Span, Target, Word};
 use sh_worklist::Waiting;
 
 // So few are looked at one by one.
 const FEW: usize = 8;
-
-// In a word of no more bytes each part is looked at.
-const SHORT: u32 = 64;
 
 // The first operands of an expression are no more levels in than this.
 const LEVELS: u32 = 2048;
@@ -90,21 +87,24 @@ fn start_of(expression: &Expr) -> u32 {
 
 /// A text that may be a redirection.
 pub trait MayRedirect: Text {
-    /// Whether it has a here-document, whose body is elsewhere in the script.
-    fn has_document(&self) -> bool;
+    /// The body of its here-document, if it has one, which is elsewhere in the script.
+    fn body(&self) -> Option<Span>;
 }
 
 impl MayRedirect for Redirect {
-    fn has_document(&self) -> bool {
-        matches!(self.target, Target::Here(_))
+    fn body(&self) -> Option<Span> {
+        match &self.target {
+            Target::Here(document) => Some(document.body.span),
+            _ => None,
+        }
     }
 }
 
 impl MayRedirect for Element {
-    fn has_document(&self) -> bool {
+    fn body(&self) -> Option<Span> {
         match self {
-            Element::Redirection(redirect) => redirect.has_document(),
-            _ => false,
+            Element::Redirection(redirect) => redirect.body(),
+            _ => None,
         }
     }
 }
@@ -126,14 +126,6 @@ fn place_at<T: Text>(texts: &[T], from: usize, offset: u32) -> usize
 {
     let count = texts[from..].partition_point(|text| text.start() <= offset);
     from + count.saturating_sub(1)
-}
-
-// The number of the first command that begins at an offset or after it. Numbers are from 1.
-fn number_at(subject: &Subject<'_>, offset: u32) -> u32 {
-    let before = subject
-        .commands
-        .partition_point(|command| command.at < offset);
-    u32::try_from(before).unwrap_or(u32::MAX).saturating_add(1)
 }
 
 // Where the command of a number begins.
@@ -168,7 +160,21 @@ pub fn place_of_text<T: Text>(
     }
 }
 
-/// The place as of `place_of_text`, or that of a here-document before it.
+// Where the first command begins that may wait in a here-document of these texts. The bodies follow
+// each other as the texts do.
+fn offset_in_bodies<T: MayRedirect>(
+    subject: &Subject<'_>,
+    waiting: &Waiting,
+    texts: &[T],
+) -> Option<u32> {
+    let first = texts.iter().find_map(|text| text.body())?;
+    let last = texts.iter().rev().find_map(|text| text.body())?;
+    let number = next_between(subject, waiting, first.start, last.end)?;
+    Some(offset_of(subject, number))
+}
+
+/// The place as of `place_of_text`, or that of a text before it in whose here-document a command
+/// may wait.
 pub fn place_of_redirect<T: MayRedirect>(
     subject: &Subject<'_>,
     waiting: &Waiting,
@@ -182,19 +188,12 @@ pub fn place_of_redirect<T: MayRedirect>(
     ensures known { by_one ≡ true → result ≡ from }
 {
     let next = place_of_text(subject, waiting, by_one, texts, from);
+    let Some(offset) = offset_in_bodies(subject, waiting, &texts[from..next]) else {
+        return next;
+    };
     let mut passed = texts[from..next].iter();
-    match passed.position(|text| text.has_document()) {
+    match passed.position(|text| text.body().is_some_and(|body| offset < body.end)) {
         Some(count) => from + count,
         None => next,
     }
-}
-
-/// Whether a command may wait in a word.
-pub fn may_wait_in(subject: &Subject<'_>, waiting: &Waiting, word: &Word) -> bool {
-    if word.span.end.saturating_sub(word.span.start) <= SHORT {
-        return may_wait_in_word(waiting, word);
-    }
-    let first = number_at(subject, word.span.start);
-    let behind = number_at(subject, word.span.end);
-    waiting.next(first, behind.saturating_sub(1)).is_some()
 }

@@ -2,6 +2,7 @@
 //! something waits. All of this is hints.
 ghost use Rattle.std.specs.Prelude.{◌≡◌, ◌≤◌, ◌<◌, true, length, IfSome};
 
+use sh_drafts::Subject;
 use sh_drafts::inner::is_in_word;
 use sh_tree::{
     Branch, Clause, Command, Item, Kind, Link, ParameterOperator, Part, Pipe, Script, Word,
@@ -11,132 +12,175 @@ use sh_worklist::Waiting;
 // So many members are looked at one by one.
 const FEW: usize = 16;
 
+// So many patterns of a clause are looked at one by one.
+const FEW_PATTERNS: usize = 8;
+
+// In a word of no more bytes each part is looked at.
+const SHORT: u32 = 64;
+
 /// One of those that follow each other. The numbers of the commands rise from one to the next.
 pub trait Member {
-    /// The number of the first command in it, or None: then it may have none, or some that the
-    /// members before and after it have not.
-    fn number(&self) -> Option<u32>;
+    /// The number of the first command in it, or of the first one after it if it has none.
+    fn number(&self, subject: &Subject<'_>) -> u32;
 
     /// Whether a command of it may wait, or one inside of these.
-    fn waits(&self, waiting: &Waiting) -> bool;
+    fn waits(&self, subject: &Subject<'_>, waiting: &Waiting) -> bool;
 }
 
 impl Member for Command {
-    fn number(&self) -> Option<u32> {
-        Some(self.number)
+    fn number(&self, _subject: &Subject<'_>) -> u32 {
+        self.number
     }
 
-    fn waits(&self, waiting: &Waiting) -> bool {
+    fn waits(&self, _subject: &Subject<'_>, waiting: &Waiting) -> bool {
         waiting.has(self.number)
     }
 }
 
 impl Member for Pipe {
-    fn number(&self) -> Option<u32> {
+    fn number(&self, _subject: &Subject<'_>) -> u32 {
         match self.parts.as_slice() {
-            [command, ..] => Some(command.number),
-            [] => None,
+            [command, ..] => command.number,
+            [] => u32::MAX,
         }
     }
 
-    fn waits(&self, waiting: &Waiting) -> bool {
+    fn waits(&self, subject: &Subject<'_>, waiting: &Waiting) -> bool {
         match self.parts.as_slice() {
             [command] => waiting.has(command.number),
-            parts => next_place(waiting, parts, 0).is_some(),
+            parts => next_place(subject, waiting, parts, 0).is_some(),
         }
     }
 }
 
 impl Member for (Link, Pipe) {
-    fn number(&self) -> Option<u32> {
-        self.1.number()
+    fn number(&self, subject: &Subject<'_>) -> u32 {
+        self.1.number(subject)
     }
 
-    fn waits(&self, waiting: &Waiting) -> bool {
-        self.1.waits(waiting)
+    fn waits(&self, subject: &Subject<'_>, waiting: &Waiting) -> bool {
+        self.1.waits(subject, waiting)
     }
 }
 
 impl Member for Item {
-    fn number(&self) -> Option<u32> {
-        self.list.first.number()
+    fn number(&self, subject: &Subject<'_>) -> u32 {
+        self.list.first.number(subject)
     }
 
-    fn waits(&self, waiting: &Waiting) -> bool {
+    fn waits(&self, subject: &Subject<'_>, waiting: &Waiting) -> bool {
         let links = self.list.rest.as_slice();
-        self.list.first.waits(waiting) || next_place(waiting, links, 0).is_some()
+        self.list.first.waits(subject, waiting) || next_place(subject, waiting, links, 0).is_some()
     }
 }
 
 impl Member for Branch {
-    fn number(&self) -> Option<u32> {
-        match first_number(&self.condition) {
-            Some(number) => Some(number),
-            None => first_number(&self.body),
+    fn number(&self, subject: &Subject<'_>) -> u32 {
+        match self.condition.items.as_slice() {
+            [item, ..] => item.number(subject),
+            [] => u32::MAX,
         }
     }
 
-    fn waits(&self, waiting: &Waiting) -> bool {
-        does_list_wait(waiting, &self.condition) || does_list_wait(waiting, &self.body)
+    fn waits(&self, subject: &Subject<'_>, waiting: &Waiting) -> bool {
+        does_list_wait(subject, waiting, &self.condition)
+            || does_list_wait(subject, waiting, &self.body)
     }
 }
 
 impl Member for Clause {
-    fn number(&self) -> Option<u32> {
-        first_number(&self.body)
+    fn number(&self, subject: &Subject<'_>) -> u32 {
+        match self.patterns.as_slice() {
+            [word, ..] => number_at(subject, word.span.start),
+            [] => u32::MAX,
+        }
     }
 
-    fn waits(&self, waiting: &Waiting) -> bool {
-        let patterns = self.patterns.as_slice();
-        does_list_wait(waiting, &self.body)
-            || patterns.iter().any(|word| may_wait_in_word(waiting, word))
+    fn waits(&self, subject: &Subject<'_>, waiting: &Waiting) -> bool {
+        does_list_wait(subject, waiting, &self.body)
+            || may_wait_in_patterns(subject, waiting, self.patterns.as_slice())
     }
 }
 
-fn first_number(list: &Script) -> Option<u32> {
-    match list.items.as_slice() {
-        [item, ..] => item.number(),
-        [] => None,
+/// The number of the first command that begins at an offset or after it. Numbers are from 1.
+pub fn number_at(subject: &Subject<'_>, offset: u32) -> u32 {
+    let before = subject
+        .commands
+        .partition_point(|command| command.at < offset);
+    u32::try_from(before).unwrap_or(u32::MAX).saturating_add(1)
+}
+
+/// The number of the first command that may wait among those that begin from one offset up to
+/// another.
+pub fn next_between(subject: &Subject<'_>, waiting: &Waiting, start: u32, end: u32) -> Option<u32> {
+    let first = number_at(subject, start);
+    let behind = number_at(subject, end);
+    waiting.next(first, behind.saturating_sub(1))
+}
+
+/// Whether a command may wait in a word.
+pub fn may_wait_in(subject: &Subject<'_>, waiting: &Waiting, word: &Word) -> bool {
+    if word.span.end.saturating_sub(word.span.start) <= SHORT {
+        return may_wait_in_word(subject, waiting, word);
+    }
+    next_between(subject, waiting, word.span.start, word.span.end).is_some()
+}
+
+// Whether a command may wait in the patterns of a clause.
+fn may_wait_in_patterns(subject: &Subject<'_>, waiting: &Waiting, patterns: &[Word]) -> bool {
+    match patterns {
+        [first, .., last] if patterns.len() > FEW_PATTERNS => {
+            next_between(subject, waiting, first.span.start, last.span.end).is_some()
+        }
+        _ => patterns
+            .iter()
+            .any(|word| may_wait_in(subject, waiting, word)),
     }
 }
 
 /// Whether a command waits in a list.
-pub fn does_list_wait(waiting: &Waiting, list: &Script) -> bool {
+pub fn does_list_wait(subject: &Subject<'_>, waiting: &Waiting, list: &Script) -> bool {
     match list.items.as_slice() {
-        [item] => item.waits(waiting),
-        items => next_place(waiting, items, 0).is_some(),
+        [item] => item.waits(subject, waiting),
+        items => next_place(subject, waiting, items, 0).is_some(),
     }
 }
 
 /// Whether a command may wait in the lists of a compound command, and not in its words alone.
-pub fn do_lists_wait(waiting: &Waiting, kind: &Kind) -> bool {
+pub fn do_lists_wait(subject: &Subject<'_>, waiting: &Waiting, kind: &Kind) -> bool {
     match kind {
-        Kind::Group(list) | Kind::Subshell(list) => does_list_wait(waiting, list),
+        Kind::Group(list) | Kind::Subshell(list) => does_list_wait(subject, waiting, list),
         Kind::Cond {
             branches,
             otherwise: None,
-        } => next_place(waiting, branches.as_slice(), 0).is_some(),
+        } => next_place(subject, waiting, branches.as_slice(), 0).is_some(),
         Kind::Cond {
             branches,
             otherwise: Some(list),
         } => {
-            next_place(waiting, branches.as_slice(), 0).is_some() || does_list_wait(waiting, list)
+            next_place(subject, waiting, branches.as_slice(), 0).is_some()
+                || does_list_wait(subject, waiting, list)
         }
         Kind::Loop {
             condition,
             body,
             ..
-        } => does_list_wait(waiting, condition) || does_list_wait(waiting, body),
-        Kind::For { body, .. } => does_list_wait(waiting, body),
-        Kind::Branches { clauses, .. } => next_place(waiting, clauses.as_slice(), 0).is_some(),
+        } => does_list_wait(subject, waiting, condition) || does_list_wait(subject, waiting, body),
+        Kind::For { body, .. } => does_list_wait(subject, waiting, body),
+        Kind::Branches { clauses, .. } => next_place(
+            subject,
+            waiting,
+            clauses.as_slice(),
+            0,
+        ).is_some(),
         Kind::Simple(_) | Kind::Define { .. } => true,
     }
 }
 
 // Whether a command may wait in a part of a word that is not in double quotes.
-fn may_wait_in_part(waiting: &Waiting, part: &Part) -> bool {
+fn may_wait_in_part(subject: &Subject<'_>, waiting: &Waiting, part: &Part) -> bool {
     match part {
-        Part::Command(_, _, list) => does_list_wait(waiting, list),
+        Part::Command(_, _, list) => does_list_wait(subject, waiting, list),
         Part::Param(param) => !matches!(
             param.operator,
             ParameterOperator::Value | ParameterOperator::Length
@@ -147,75 +191,40 @@ fn may_wait_in_part(waiting: &Waiting, part: &Part) -> bool {
 }
 
 // Whether a command may wait in one of these.
-fn may_wait_in_parts(waiting: &Waiting, parts: &[Part]) -> bool {
+fn may_wait_in_parts(subject: &Subject<'_>, waiting: &Waiting, parts: &[Part]) -> bool {
     let mut parts = parts.iter();
-    parts.any(|part| may_wait_in_part(waiting, part))
+    parts.any(|part| may_wait_in_part(subject, waiting, part))
 }
 
-/// Whether a command may wait in a word, each part of which is looked at.
-pub fn may_wait_in_word(waiting: &Waiting, word: &Word) -> bool {
+// Whether a command may wait in a word, each part of which is looked at.
+fn may_wait_in_word(subject: &Subject<'_>, waiting: &Waiting, word: &Word) -> bool {
     let mut parts = word.parts.as_slice().iter();
     let may_wait = parts.any(|part| match part {
-        Part::Double(_, parts) => may_wait_in_parts(waiting, parts.as_slice()),
-        _ => may_wait_in_part(waiting, part),
+        Part::Double(_, parts) => may_wait_in_parts(subject, waiting, parts.as_slice()),
+        _ => may_wait_in_part(subject, waiting, part),
     });
     may_wait && is_in_word(word)
 }
 
-// The place from a place on of the first member that has a number, or their count.
-fn place_of_number<M: Member>(members: &[M], from: usize) -> usize
-    requires { from ≤ length members.now }
-    ensures from { from ≤ result }
-    ensures there { result ≤ length members.now }
-{
-    let mut place = from;
-    while place < members.len() && members[place].number().is_none() {
-        place += 1;
-    }
-    place
-}
-
-// The number of the first member from a place on that has one.
-fn number_from<M: Member>(members: &[M], from: usize) -> u32
-    requires { from ≤ length members.now }
-{
-    match members.get(place_of_number(members, from)) {
-        Some(member) => member.number().unwrap_or(u32::MAX),
-        None => u32::MAX,
-    }
-}
-
-// The last place from a place on of a member that has, or before one that has, a number up to this
-// one.
-fn place_up_to<M: Member>(members: &[M], from: usize, number: u32) -> usize
+// The place from a place on of the member in which the next command that waits may be, or of the
+// last member.
+fn place_behind<M: Member>(
+    subject: &Subject<'_>,
+    waiting: &Waiting,
+    members: &[M],
+    from: usize,
+) -> usize
     requires { from < length members.now }
     ensures from { from ≤ result }
     ensures there { result < length members.now }
 {
-    let mut low = from;
-    let mut high = members.len();
-    while high - low > 1 {
-        let middle = low + (high - low) / 2;
-        if number_from(&members[..high], middle) <= number {
-            low = middle;
-        } else {
-            high = middle;
-        }
-    }
-    low
-}
-
-// The place from a second place on of the member in which the next command that waits may be, or of
-// the last member. None waits from the first place up to the second.
-fn place_behind<M: Member>(waiting: &Waiting, members: &[M], from: usize, second: usize) -> usize
-    requires from { from ≤ second }
-    requires there { second < length members.now }
-    ensures from { second ≤ result }
-    ensures there { result < length members.now }
-{
     let last = members.len() - 1;
-    match waiting.next(number_from(members, from), number_from(members, last)) {
-        Some(number) => place_up_to(members, from, number).max(second),
+    let first = members[from].number(subject);
+    match waiting.next(first, members[last].number(subject)) {
+        Some(number) => {
+            let count = members[from..].partition_point(|member| member.number(subject) <= number);
+            from + count.saturating_sub(1)
+        }
         None => last,
     }
 }
@@ -223,21 +232,25 @@ fn place_behind<M: Member>(waiting: &Waiting, members: &[M], from: usize, second
 /// The place from a place on of the first member in which a command may wait. A few are looked at
 /// one by one, since the bodies of functions that are never called wait too. The others are
 /// searched for by the number of the next command that waits.
-pub fn next_place<M: Member>(waiting: &Waiting, members: &[M], from: usize) -> Option<usize>
+pub fn next_place<M: Member>(
+    subject: &Subject<'_>,
+    waiting: &Waiting,
+    members: &[M],
+    from: usize,
+) -> Option<usize>
     ensures { IfSome result (λ place. (from ≤ place) × (place < length members.now)) }
 {
     let mut place = from;
     while place < members.len() {
-        let numbered = place_of_number(members, place);
-        let end = members.len().min(numbered.saturating_add(FEW));
+        let end = members.len().min(place.saturating_add(FEW));
         let mut first = members[place..end].iter();
-        if let Some(count) = first.position(|member| member.waits(waiting)) {
+        if let Some(count) = first.position(|member| member.waits(subject, waiting)) {
             return Some(place + count);
         }
         if end == members.len() {
             return None;
         }
-        place = place_behind(waiting, members, numbered, end);
+        place = place_behind(subject, waiting, members, end);
     }
     None
 }
@@ -245,6 +258,7 @@ pub fn next_place<M: Member>(waiting: &Waiting, members: &[M], from: usize) -> O
 /// The place from a place on at which a sweep goes on: there if something is known, or else at the
 /// first member in which a command may wait. Their count if there is none.
 pub fn place_of_news<M: Member>(
+    subject: &Subject<'_>,
     waiting: &Waiting,
     is_known: bool,
     members: &[M],
@@ -258,6 +272,6 @@ pub fn place_of_news<M: Member>(
     if is_known {
         from
     } else {
-        next_place(waiting, members, from).unwrap_or(members.len())
+        next_place(subject, waiting, members, from).unwrap_or(members.len())
     }
 }

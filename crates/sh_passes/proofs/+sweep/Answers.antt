@@ -787,5 +787,8 @@ links::sweep_links-sweep_link-requires = links.sweep_links-sweep_link-requires
 pub links::sweep_links-loop-place-preserved : goal.links::sweep_links-loop-place-preserved
 links::sweep_links-loop-place-preserved = links.sweep_links-loop-place-preserved
 
+pub links::sweep_link-link_if-requires : goal.links::sweep_link-link_if-requires
+links::sweep_link-link_if-requires = links.sweep_link-link_if-requires
+
 pub links::sweep_link-returns-clause-passed : goal.links::sweep_link-returns-clause-passed
 links::sweep_link-returns-clause-passed = links.sweep_link-returns-clause-passed

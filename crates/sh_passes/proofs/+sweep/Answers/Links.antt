@@ -52,6 +52,9 @@ sweep_links-loop-place-preserved t c =
     subst (AreLinks s y b) (at_index c.args.links.now next c.index-links-next.result (found_below next (length c.args.links.now) c.next_link-next.ensures.there c.if-next-links.false) c.index-links-next.is) (c.next_link-next.ensures.left y c.loop-place.invariant.placed) in
     record { swept = swept_more s _ _ _ _ _ c.loop-place.invariant.swept c.in_ok-sweep_link.ensures.swept; placed = c.in_ok-sweep_link.ensures.passed _ here }
 
+pub sweep_link-link_if-requires : goal.links::sweep_link-link_if-requires
+sweep_link-link_if-requires t c = (_, ready_again c.args.subject.now _ _ _ _ c.requires.ready c.in_ok-enter_link.ensures.swept)
+
 pub sweep_link-returns-clause-passed : goal.links::sweep_link-returns-clause-passed
 sweep_link-returns-clause-passed t c =
     λ others here.
