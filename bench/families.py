@@ -41,8 +41,18 @@ def count_of(size, sample, most=MOST_NAMES):
     return max(2, min(most, size // (len(sample) + 1)))
 
 
-def shift_behind(size):
+def shift_after(size):
     return straight(size - 30) + "while :; do shift; done\n"
+
+
+def shift_in_links(piece):
+    """Each link leaves fewer parameters than the one before it, and all leave many."""
+
+    def of(size):
+        count = max(2, (size - 20) // len(piece % 60000))
+        return "while :; do " + "".join(piece % (65_000 - 54_000 * n // count) for n in range(count)) + "b; done\n"
+
+    return of
 
 
 def shift_words(size):
@@ -252,7 +262,7 @@ def unset_of(size):
     return f"f() {{ unset {names}; }}\n"
 
 
-def told_by_parts(size):
+def findings_of_parts(size):
     start = unset_of(size)
     return start + " | ".join(["f"] * max(2, (size - len(start)) // 4)) + "\n"
 
@@ -488,7 +498,7 @@ def long_ends(size):
     return f"cat <<{end}\n" + (end[1:] + "\n") * 6 + end + "\n"
 
 
-def told_within(size):
+def findings_within(size):
     """Pipelines in parts of pipelines, each with a finding."""
     return unset_of(size) + of(each(within("{ ", "f | a", "; } | a", 50)))(size // 2)
 
@@ -625,7 +635,7 @@ LINED = {
     "entries from the end, deep": from_the_end("fN() { gN; ( fK ); }\ngN() { hN; }\nhN() { iN; }\niN() { a; }\n"),
     "entries of long bodies": of(each("vN=\n", 1900), "f() {\n", each('b "$vN"\n', 1900), "}\n", each("gN() { unset vN; f; }; gN\n", 1900)),
     "lost along calls": of(each("fN() { unset vN; fK; }\n", MOST_NAMES // 2), "f0\n"),
-    "told in parts of parts": told_within,
+    "findings of parts of parts": findings_within,
     "told by callers": of("f0() { unset v; }\n", each("fN() { f0 | f0; }\n"), "f9\n"),
 }
 
@@ -671,7 +681,9 @@ ROUND = {
 
 # By its name, how a script is made, and with which options it is read.
 FAMILIES = {
-    "shift behind": (shift_behind, ALL_PARAMETERS),
+    "shift in links": (shift_in_links('{ a && { shift; : "${%d?}"; }; } || '), ALL_PARAMETERS),
+    "shift in ifs": (shift_in_links('if a; then shift; : "${%d?}"; else false; fi || '), ALL_PARAMETERS),
+    "shift after": (shift_after, ALL_PARAMETERS),
     "shift words": (shift_words, ()),
     "shift around": (shift_around, ALL_PARAMETERS),
     "shift choice": (shift_choice, ALL_PARAMETERS),
@@ -706,7 +718,7 @@ FAMILIES = {
     "triggers before names": (triggers_before_names, ()),
     "trigger circle": (triggers_by_functions, ()),
     "trigger calls": (trigger_calls, ()),
-    "told by parts": (told_by_parts, ()),
+    "findings of parts": (findings_of_parts, ()),
     "rows": (rows_in_loop, ()),
     "losing inward": (losing_loops, ()),
     "losing outward": (losing_loops_outward, ()),
@@ -720,6 +732,9 @@ FAMILIES = {
     "reached back in pipelines": (reached_back("", "( C ) | b\n", "a|b\n", ""), ()),
     "reached back in redirections": (reached_back("a ", '>"$(C)" ', ">a ", "\n"), ()),
     "reached back in assignments": (reached_back("", "a=$(C) ", "a=b ", "\n"), ()),
+    "reached back in clauses": (reached_back("case x in\n", "a) C ;;\n", "a) ;;\n", "esac\n"), ()),
+    "reached back in lists of patterns": (lambda size: reached_back("case x in " + "a|" * (size // 4) + "a) ;;\n", "a) C ;;\n", "a) b;;\n", "esac\n")(size), ()),
+    "reached back in parts of a pattern": (lambda size: reached_back("case x in " + '"$a"' * (size // 8) + ") ;;\n", "a) C ;;\n", "a) b;;\n", "esac\n")(size), ()),
     "reached back in patterns": (reached_back("case x in ", "$(C)|", "a|", "b) c;; esac\n"), ()),
     "reached back in words of for": (reached_back("for i in ", "$(C) ", "a ", "; do b; done\n"), ()),
     "reached back in a word": (reached_back("echo ", "$(C)", "$(b)", "\n"), ()),
@@ -731,6 +746,12 @@ FAMILIES = {
     "reached back in targets": (reached_back("a <<E ", '>"$(C)" ', ">a ", "\nE\n"), ()),
     "reached back in targets of a group": (reached_back("{ a; } <<E ", '>"$(C)" ', ">a ", "\nE\n"), ()),
     "reached back after targets": (lambda size: reached_back("{ b; } " + ">f " * (size // 6), ">$(C) ", ">b ", "\n")(size), ()),
+    "reached back before a list": (lambda size: reached_back("while a; do\n", "( C ) | b\n", "a\n", "a" + "||a" * (size // 10) + "\ndone\n")(size), ()),
+    "reached back after a pipeline": (lambda size: reached_back("a|" * (size // 6) + "b\n", "( C ) | b\n", "a\n", "")(size), ()),
+    "reached back in lists of a loop": (reached_back("while a; do\n", "a|b && ( C )\n", "a|b && c\n", "done\n"), ()),
+    "reached back in case in a function": (reached_back("h() { case x in\n", "a) ( C );;\n", "a) b;;\n", "esac; }\nh\n"), ()),
+    "reached back in links in a function": (reached_back("h() { a", " || ( C )", "||a", "; }\nh\n"), ()),
+    "reached back beside documents": (lambda size: reached_back("a " + "<<E " * (size // 18), '>"$(C)" ', ">a ", "\n" + "E\n" * (size // 18))(size), ()),
     "reached back in definitions": (reached_back("a", " || ( C )", "||f() { b; }", "\n"), ()),
     "long body of words": (long_body("echo ", "a "), ()),
     "long body of a word": (long_body("echo $(b)", '"a"'), ()),
@@ -781,8 +802,8 @@ ROUNDS = {
     "triggers before assignments": rounds_of,
     "triggers before names": rounds_of,
     "trigger calls": rounds_of,
-    "told by parts": findings_of,
-    "told in parts of parts": findings_of,
+    "findings of parts": findings_of,
+    "findings of parts of parts": findings_of,
 }
 
 
