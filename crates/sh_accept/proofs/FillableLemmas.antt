@@ -1,5 +1,5 @@
 -- What is read of a compact certificate's text may be filled.
-use Rattle.std.proofs.Common.{◌≡◌, ℕ, true, List, length, Ok, refl, sym, subst}
+use Rattle.std.proofs.Common.{◌≡◌, true, length, sym, subst}
 use Rattle.sh_tree.specs.declared.limits.TheConstants.{MAX_NESTING}
 use Rattle.sh_domain.specs.Admitted.{functions_in}
 use Rattle.sh_domain.specs.Certificates.{in_byte_order}

@@ -1,6 +1,6 @@
 -- Whatever the parts of a check answer, one after the other, an answer is allowed.
 -- shset's own; the standard has none.
-use Rattle.std.specs.Prelude.{◌≡◌, ◌<◌, ℕ, List, [], length, None, Some, Ok, Err}
+use Rattle.std.specs.Prelude.{◌≡◌, ℕ, List, [], length, None, Some, Ok, Err}
 use Rattle.sh_tree.specs.Answers.{Parses}
 use Rattle.sh_tree.specs.declared.refusal.Refusal.{Refusal}
 use Rattle.sh_tree.specs.declared.tree.Script.{Script}

@@ -1,5 +1,5 @@
 -- Any other answer's text is empty or longer than `clean`.
-use Rattle.std.proofs.Common.{◌≡◌, ◌⊎◌, inl, inr, ℕ, zero, suc, ◌+◌, ◌<◌, List, [], ◌∷◌, ◌++◌, length, map, codes, Result, Ok, Err, refl, sym, ap, ◌∙◌, subst, arith, length-append}
+use Rattle.std.proofs.Common.{◌≡◌, inl, inr, ℕ, zero, suc, ◌+◌, ◌<◌, List, [], ◌∷◌, ◌++◌, length, map, codes, Result, Ok, Err, refl, ap, arith, length-append}
 use Rattle.std.specs.Fmt.{decimal}
 use Rattle.std.specs.List.{flat_map}
 use Rattle.std.proofs.lemmas.List.{length-map}
@@ -10,7 +10,7 @@ use Rattle.sh_answers.specs.declared.verdict.Report.{Report}
 use Rattle.sh_answers.specs.declared.verdict.Verdict.{Verdict}
 use Rattle.sh_answers.specs.declared.verdict.Verdict.TheVariants.{Pass, Fail, Forged}
 use Rattle.sh_answers.specs.Verdicts.{Contents, contents_of}
-use Rattle.sh_answers.specs.Texts.{CleanIsPass, answer_text, finding_text, last_line, refused_place, refused_text, rule_name_text, status_of, verdict_text}
+use Rattle.sh_answers.specs.Texts.{CleanIsPass, answer_text, finding_text, last_line, refused_place, refused_text, status_of, verdict_text}
 
 longer : (k : ℕ) (a b : List ℕ) → length a ≡ k → 6 < k → 6 < length (a ++ b)
 longer k a b e l = let both = length-append a b in omega arith

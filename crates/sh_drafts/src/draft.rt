@@ -8,7 +8,8 @@ use sh_worklist::Waiting;
 use std::alloc::{AllocError, Global};
 
 /// How often so far something fell, a command was entered with less, and one was looked at that
-/// waited. A subshell leaves no traces, and a part of a pipeline or an asynchronous list no falls.
+/// waited. A subshell, a substitution and a called body leave no traces. A part of a pipeline or an
+/// asynchronous list leaves no falls.
 #[derive(Clone, Copy, Debug, PartialEq, Eq)]
 pub struct Traces {
     pub falls: u64,

@@ -1,6 +1,6 @@
 -- What is reported of places.
 -- shset's own; the standard has none.
-use Rattle.std.specs.Prelude.{◌≡◌, ◌<◌, ℕ, List, [], length}
+use Rattle.std.specs.Prelude.{◌≡◌, ℕ, List, []}
 use Rattle.sh_tree.specs.declared.place.Place.{Place}
 use Rattle.sh_answers.specs.Findings.{AreFindings}
 use Rattle.sh_answers.specs.declared.verdict.Verdict.{Verdict}

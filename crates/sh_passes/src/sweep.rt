@@ -1,6 +1,6 @@
 //! A sweep of the search over the commands of a list. It lowers each command where it comes to it,
 //! before those after it (XCU 2.9).
-ghost use Rattle.std.specs.Prelude.{◌≡◌, ◌∷◌, ◌<◌, ◌≤◌, ◌-◌, ℕ, List, true, length, take, drop, IfOk};
+ghost use Rattle.std.specs.Prelude.{◌∷◌, ◌<◌, ◌≤◌, ◌-◌, ℕ, List, true, length, take, drop, IfOk};
 ghost use Rattle.sh_tree.specs.standard.Tree.{text_of};
 ghost use Rattle.sh_tree.specs.declared.tree.Item as tree;
 ghost use Rattle.sh_tree.specs.Lists.{items_from};

@@ -3,7 +3,7 @@
 use Rattle.std.proofs.Common.{◌≡◌, ◌&&◌, ◌||◌, Bool, true, false, List, [], ◌∷◌, ◌++◌, refl, subst}
 use Rattle.std.proofs.lemmas.Bool.{and_parts}
 use Rattle.sh_tree.specs.standard.program.Syntax as p
-use Rattle.sh_runs.specs.Surroundings.{Surroundings, Located, has_loop, outside, in_loop, in_function, in_part, in_item, items_located, list_located, links_located, pipeline_located, commands_located, command_located, kind_located, elements_located, redirects_located, branches_located, otherwise_located, for_words_located, words_located, clauses_located, word_located}
+use Rattle.sh_runs.specs.Surroundings.{Surroundings, Located, has_loop, outside, in_loop, in_part, in_item, items_located, list_located, links_located, pipeline_located, commands_located, command_located, kind_located, redirects_located, branches_located, otherwise_located, for_words_located, words_located, clauses_located, word_located}
 use Rattle.sh_runs.proofs.ExpansionLemmas.{Each, each_parts, each_joined}
 
 -- the same place, perhaps in no part of a pipeline in a loop

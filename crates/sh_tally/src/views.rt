@@ -83,7 +83,7 @@ fn is_less(places: &Places<'_>, equations: &Equations, view: View, other: Option
     }
 }
 
-// The one of two views that may fall further: a hint. Claims tell only if the floors are equal,
+// The one of two views that may fall further: a hint. Claims decide only if the floors are equal,
 // since a view that falls by more at each turn may have the higher floor.
 fn lower(
     places: &Places<'_>,

@@ -114,9 +114,9 @@ abbrev pub begins_late : List ℕ → Bool
 begins_late t = is_first is_backslash t || is_first is_tab t
 
 -- The body from i on, or the line l that ends it, is read in two ways (XCU 2.7.4). A tab follows a
--- line continuation in the body: shells differ in whether `<<-` strips it. Or the end line begins
--- with a continuation, perhaps after tabs: directly after one no delimiter is recognized, and most
--- shells recognize it.
+-- line continuation in the body: shells differ in whether `<<-` strips it. Or the end line holds a
+-- continuation, and begins with a backslash or a tab. Directly after a continuation no delimiter is
+-- recognized, and most shells recognize it.
 abbrev pub is_ambiguous : Mark → List ℕ → ℕ → Span → Bool
 is_ambiguous m b i l =
     (m.strip && not m.quoted && has_joined (is_first is_tab) (slice_range b i l.start))

@@ -81,7 +81,8 @@ abbrev pub is_login_byte : ℕ → Bool
 is_login_byte c = is_name_byte c || is_in (codes ".+-") c
 
 -- How long the tilde-prefix is whose tilde is before cs, or 0 if there is none. It is a login name,
--- or none, up to a slash, a colon or the end.
+-- or none, up to a slash, the end of the word, or a colon in an assignment. A line continuation ends
+-- it too, and so does a backquote that ends the text.
 unfoldable pub tilde_length : Context → List ℕ → ℕ
 tilde_length x cs =
     let rest = drop (run is_login_byte cs) cs in
