@@ -52,7 +52,7 @@ pub fn compact_counts_in(line: &[u8]) -> Option<CompactCounts>
 fn are_counts(first: &[u8], second: &[u8], third: &[u8]) -> bool
     ensures { result ≡ (bytes_eq (codes "commands") first.now && bytes_eq (codes "functions") second.now && bytes_eq (codes "loops") third.now) }
 {
-    is_counts(first, second) && matches!(third, b"loops")
+    is_counts(first, second) && b"loops".as_slice() == third
 }
 
 #[tactic(auto, unfolding(sh_domain::specs::CompactForms::three_counts))]

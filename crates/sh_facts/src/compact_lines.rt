@@ -26,7 +26,7 @@ pub fn is_compact(text: &[u8]) -> bool
 fn is_first(line: &[u8]) -> bool
     ensures { result ≡ bytes_eq compact_line line.now }
 {
-    matches!(line, b"shset certificate 2")
+    b"shset certificate 2".as_slice() == line
 }
 
 /// Whether the lines have the form of a compact certificate's; or the number of the first that has

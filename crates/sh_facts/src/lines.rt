@@ -38,7 +38,7 @@ pub fn after_version(text: &[u8]) -> Result<&[u8], u32>
 fn is_first(line: &[u8]) -> bool
     ensures { result ≡ bytes_eq first_line line.now }
 {
-    matches!(line, b"shset certificate 1")
+    b"shset certificate 1".as_slice() == line
 }
 
 /// The counts in the second line, and what follows it.
