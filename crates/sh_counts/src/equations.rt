@@ -3,7 +3,7 @@ ghost use Rattle.std.specs.Prelude.{◌≡◌, ◌++◌, ◌∷◌, [], length, 
 ghost use Rattle.sh_counts.specs.Equations.{made};
 ghost use Rattle.sh_counts.specs.Changes.{Changes, equation};
 
-use crate::courses::Course;
+use crate::courses::Courses;
 use std::alloc::{AllocError, Global};
 
 /// An unknown count, by its index among those of its equations.
@@ -39,8 +39,8 @@ pub struct Equations {
     // The bound of each count that no equation gives.
     most: Vec<u16>,
     all: Vec<Equation>,
-    // A course to each count that has an equation, from a count that had none: a hint.
-    courses: Vec<Option<Course>>,
+    // Courses to each count that has an equation, from counts that had none: a hint.
+    courses: Vec<Option<Courses>>,
 }
 
 impl Change {
@@ -100,34 +100,35 @@ impl Equations {
         self.all.as_slice()
     }
 
-    // The course to a count, from one that had no equation: from itself, if it has none so far.
-    fn course(&self, count: Count) -> Course {
+    // Courses to a count from one that had no equation: from itself, if it has none so far.
+    fn courses(&self, count: Count) -> Courses {
         match self.courses.get(count.index) {
-            Some(Some(course)) => *course,
-            _ => Course::NONE,
+            Some(Some(courses)) => *courses,
+            _ => Courses::NONE,
         }
     }
 
     /// The least to which a count falls if it is in a circle, by the equations so far: a hint. Each
     /// of them was gone by once, when it was added.
     pub fn floor(&self, count: Count) -> u16 {
-        self.course(count).floor()
+        self.courses(count).falling.floor()
     }
 
-    // Notes a course to a count, if the count has none so far with as low a floor.
-    fn note(&mut self, count: Count, course: Course)
+    /// What the equations so far make of zero on the way to a count: a hint, as `floor`.
+    pub fn least(&self, count: Count) -> u16 {
+        self.courses(count).any.least()
+    }
+
+    // Notes courses to a count.
+    fn note(&mut self, count: Count, courses: Courses)
         ensures most { self.new.most ≡ self.old.most }
         ensures all { self.new.all ≡ self.old.all }
     {
-        let Some(to) = self.courses.get_mut(count.index) else {
-            return;
-        };
-        let is_lower = match *to {
-            Some(before) => course.floor() < before.floor(),
-            None => true,
-        };
-        if is_lower {
-            *to = Some(course);
+        if let Some(to) = self.courses.get_mut(count.index) {
+            *to = Some(match *to {
+                Some(before) => before.or(courses),
+                None => courses,
+            });
         }
     }
 
@@ -143,7 +144,7 @@ impl Equations {
         ensures all { self.new.all.items ≡ self.old.all.items }
     {
         let index = self.most.len();
-        self.courses.push(None::<Course>)?;
+        self.courses.push(None::<Courses>)?;
         self.most.push(most)?;
         Ok(Count { index })
     }
@@ -158,8 +159,8 @@ impl Equations {
         ensures err { OnErr result (self.new.all.items ≡ self.old.all.items) }
         ensures most { self.new.most.items ≡ self.old.most.items }
     {
-        let course = self.course(source).then(change);
-        self.note(count, course);
+        let courses = self.courses(source).then(change);
+        self.note(count, courses);
         let count = narrow(count)?;
         let source = narrow(source)?;
         self.all.push(Equation {

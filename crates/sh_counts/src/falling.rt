@@ -9,28 +9,39 @@ ghost use Rattle.sh_counts.specs.Heads.{AreLed};
 use crate::bounded::{Bounded, Reach};
 use crate::circles::Way;
 use crate::equations::{Equation, Equations};
-use crate::order::Order;
+use crate::order::places;
 use crate::users::Users;
 use std::alloc::{AllocError, Global};
 use std::cmp::Reverse;
 use std::collections::BinaryHeap;
 
-/// Counts that only fall, and a queue of those that fell and wait, each at most once.
+/// When a count that fell has its turn.
+#[derive(Clone, Copy, PartialEq, Eq, PartialOrd, Ord)]
+struct Turn {
+    round: u64,
+    rank: u32,
+    index: u32,
+}
+
+/// Counts that only fall, and a queue of those that fell and wait.
 #[derive(Drop)]
 struct Falling {
     counts: Vec<u16>,
     // The equation by which each count fell last: a hint. Its source alone does not tell, since
     // `set -- $x "$@"` bounds a count by two changes of one source.
     reasons: Vec<Option<Equation>>,
-    // The turns of those that wait. Turns go over all counts in an order, round by round: a hint.
-    queue: BinaryHeap<Reverse<u64>>,
-    order: Order,
+    // The turns of those that wait: a hint. One that falls again has one more, and takes the first.
+    queue: BinaryHeap<Reverse<Turn>>,
+    // The place of each count in an order.
+    places: Vec<u32>,
     // Which counts wait. It is empty before there is an order, and then none does.
     waiting: Vec<bool>,
     // The last turn.
-    turn: u64,
+    turn: Turn,
     // How often a count fell since circles were looked for.
     falls: usize,
+    // Whether the last look went by all equations, and not by reasons alone.
+    is_wide: bool,
 }
 
 impl Falling {
@@ -44,10 +55,15 @@ impl Falling {
             counts,
             reasons,
             queue: BinaryHeap::new(alloc),
-            order: Order::none(alloc),
+            places: Vec::new(alloc),
             waiting: Vec::new(alloc),
-            turn: 0,
+            turn: Turn {
+                round: 0,
+                rank: 0,
+                index: 0,
+            },
             falls: 0,
+            is_wide: true,
         })
     }
 
@@ -67,43 +83,56 @@ impl Falling {
         }
     }
 
-    // The next turn of a count of so many.
-    fn next_turn(&self, index: u32, counts: u64) -> u64 {
-        let place = self.turn.checked_rem(counts).unwrap_or(0);
-        let next = self.turn.saturating_sub(place);
-        let next = next.saturating_add(self.order.place(index) as u64);
-        if next > self.turn {
-            next
+    // The turn of a count in a round. By turns, rounds go by places and by numbers, from the least
+    // on. The first suit falls from place to place, the others those against the order.
+    fn turn_in(&self, round: u64, index: u32) -> Turn {
+        let rank = if round.is_multiple_of(2) {
+            self.places.get(index as usize).copied().unwrap_or(0)
         } else {
-            next.saturating_add(counts)
+            u32::from(self.count(index))
+        };
+        Turn { round, rank, index }
+    }
+
+    // The next turn of a count.
+    fn next_turn(&self, index: u32) -> Turn {
+        let turn = self.turn_in(self.turn.round, index);
+        if turn.rank < self.turn.rank {
+            self.turn_in(self.turn.round.saturating_add(1), index)
+        } else {
+            turn
         }
     }
 
-    // Puts a count that fell into the queue, unless it is in it or there is no order.
+    // Notes whether a count waits. Returns whether it did, if there is an order.
+    fn set_waiting(&mut self, index: u32, waits: bool) -> Option<bool>
+        ensures { self.new.counts ≡ self.old.counts }
+    {
+        let to = self.waiting.get_mut(index as usize)?;
+        let before = *to;
+        *to = waits;
+        Some(before)
+    }
+
+    // Puts a count that fell into the queue, if there is an order.
     fn wait(&mut self, index: u32) -> Result<(), AllocError>
         ensures { self.new.counts ≡ self.old.counts }
     {
-        let at = index as usize;
-        if at < self.waiting.len() && !self.waiting[at] {
-            self.waiting[at] = true;
-            let turn = self.next_turn(index, self.waiting.len() as u64);
+        if self.set_waiting(index, true).is_some() {
+            let turn = self.next_turn(index);
             self.queue.push(Reverse(turn))?;
         }
         Ok(())
     }
 
-    // Takes the count whose turn is next from the queue.
-    fn take(&mut self) -> Option<u32>
+    // Takes the count whose turn is next from the queue. Returns it with whether it waits.
+    fn take(&mut self) -> Option<(u32, bool)>
         ensures { self.new.counts ≡ self.old.counts }
     {
         let Reverse(turn) = self.queue.pop()?;
         self.turn = turn;
-        let place = turn.checked_rem(self.waiting.len() as u64)?;
-        let index = self.order.at(place as usize)?;
-        if let Some(waits) = self.waiting.get_mut(index as usize) {
-            *waits = false;
-        }
-        Some(index)
+        let waits = self.set_waiting(turn.index, false) == Some(true);
+        Some((turn.index, waits))
     }
 
     // Lowers a count.
@@ -205,18 +234,33 @@ impl Falling {
     }
 
     // Follows the reasons from a count, and marks each count that they meet. Returns a count of the
-    // circle that they end in, if there is one and no count was marked by an earlier call.
-    fn circle(&self, marks: &mut [Option<u32>], index: u32) -> Option<u32> {
+    // circle that they end in, if there is one: if they meet a mark, that of the count that set it.
+    fn circle(&self, marks: &mut [Option<u32>], heads: &[Option<u32>], index: u32) -> Option<u32> {
         let mut at = index;
         for _ in 0..self.counts.len() {
             let mark = marks.get_mut(at as usize)?;
             if let Some(by) = *mark {
-                return if by == index { Some(at) } else { None };
+                return if by == index {
+                    Some(at)
+                } else {
+                    *heads.get(by as usize)?
+                };
             }
             *mark = Some(index);
             at = self.reason(at)?.source;
         }
         Some(at)
+    }
+
+    // One count of the circle that the reasons of each count end in, if there is one.
+    fn heads(&self, alloc: Global) -> Result<Vec<Option<u32>>, AllocError> {
+        let mut marks = vec![in alloc; None::<u32>; self.counts.len()]?;
+        let mut heads = Vec::new(alloc);
+        for index in 0..u32::try_from(self.counts.len()).unwrap_or(u32::MAX) {
+            let head = self.circle(marks.as_mut_slice(), heads.as_slice(), index);
+            heads.push(head)?;
+        }
+        Ok(heads)
     }
 
     // Lowers a count to a bound of it.
@@ -242,7 +286,7 @@ impl Falling {
     }
 
     // Goes on by an equation from a count that the head bounds. If that leads to the head, it
-    // closes a circle. Else the head bounds its count too, if the equation is its reason.
+    // closes a circle. Else the head bounds its count too, if the look goes by the equation.
     #[tactic(auto, using(crate::proofs::FallLemmas::fell_none))]
     fn go_on(
         &mut self,
@@ -266,7 +310,7 @@ impl Falling {
             self.lower_round(index, way)?;
             return Ok(());
         }
-        if self.reason(index) == Some(equation) {
+        if self.is_wide || self.reason(index) == Some(equation) {
             bounded.add(index, way)?;
         }
         Ok(())
@@ -294,8 +338,28 @@ impl Falling {
         Ok(())
     }
 
-    // Meets the counts that the head bounds by reasons, and lowers the head to what each circle
-    // through them allows. So the branches of a loop take one look, not one each.
+    // As `go_on_each`, unless the count was met before.
+    #[tactic(auto, using(crate::proofs::FallLemmas::fell_none))]
+    fn go_on_from(
+        &mut self,
+        bounded: &mut Bounded,
+        from: Reach,
+        users: &Users<'_>,
+    ) -> Result<(), AllocError>
+        ensures sound { OnOk result ((es : declared.Equations) → All (Follows es) users.now.equations.now → Leads es from.way from.index bounded.old.head → StaysSound es self.old self.new) }
+        ensures fell { OnOk result (Fell self.old.counts.items self.new.counts.items) }
+        ensures head { bounded.new.head ≡ bounded.old.head }
+        ensures led { OnOk result ((es : declared.Equations) → All (Follows es) users.now.equations.now → Leads es from.way from.index bounded.old.head → AreLed es bounded.old → AreLed es bounded.new) }
+    {
+        if !bounded.meet(from) {
+            return Ok(());
+        }
+        self.go_on_each(bounded, from, users)?;
+        Ok(())
+    }
+
+    // Meets the counts that the head bounds, and lowers the head to what each circle through them
+    // allows. So the branches of a loop take one look, not one each.
     #[tactic(auto, using(crate::proofs::FallLemmas::fell_none, crate::proofs::FallLemmas::fell_more))]
     fn close_all(&mut self, bounded: &mut Bounded, users: &Users<'_>) -> Result<(), AllocError>
         ensures sound { OnOk result ((es : declared.Equations) → All (Follows es) users.now.equations.now → AreLed es bounded.old → StaysSound es self.old self.new) }
@@ -303,11 +367,11 @@ impl Falling {
         ensures head { bounded.new.head ≡ bounded.old.head }
         ensures led { OnOk result ((es : declared.Equations) → All (Follows es) users.now.equations.now → AreLed es bounded.old → AreLed es bounded.new) }
     {
-        for place in 0..self.counts.len() {
-            let Some(from) = bounded.get(place) else {
+        for _ in 0..u64::MAX {
+            let Some(from) = bounded.take() else {
                 return Ok(());
             };
-            self.go_on_each(bounded, from, users)?;
+            self.go_on_from(bounded, from, users)?;
         }
         Ok(())
     }
@@ -319,7 +383,7 @@ impl Falling {
         ensures sound { OnOk result ((es : declared.Equations) → AreLed es bounded.now → StaysSound es self.old self.new) }
         ensures fell { OnOk result (Fell self.old.counts.items self.new.counts.items) }
     {
-        for place in 0..self.counts.len() {
+        for place in 0..usize::MAX {
             let Some(reach) = bounded.get(place) else {
                 return Ok(());
             };
@@ -338,8 +402,9 @@ impl Falling {
         Ok(())
     }
 
-    // Lowers a count to what the circles through it allow, and then those that it bounds.
-    #[tactic(auto, using(crate::proofs::FallLemmas::fell_more))]
+    // Lowers a count to what the circles through it allow, and then those that it bounds, if it is
+    // a head.
+    #[tactic(auto, using(crate::proofs::FallLemmas::fell_none, crate::proofs::FallLemmas::fell_more))]
     fn lower_head(
         &mut self,
         bounded: &mut Bounded,
@@ -349,27 +414,28 @@ impl Falling {
         ensures sound { OnOk result ((es : declared.Equations) → All (Follows es) users.now.equations.now → StaysSound es self.old self.new) }
         ensures fell { OnOk result (Fell self.old.counts.items self.new.counts.items) }
     {
-        bounded.begin(head)?;
+        if !bounded.is_head(head) {
+            return Ok(());
+        }
+        bounded.begin(head, self.count(head))?;
         self.close_all(bounded, users)?;
         self.lower_bounded(&*bounded)?;
         Ok(())
     }
 
     // Lowers one count of each circle of reasons, and all that it bounds. Else it could fall by one
-    // each time round.
+    // each time round. By turns it goes by reasons alone, and by all equations: the first finds how
+    // counts fall, and the second how far they may fall.
     #[tactic(auto, using(crate::proofs::FallLemmas::fell_none, crate::proofs::FallLemmas::fell_more))]
     fn lower_circles(&mut self, alloc: Global, users: &Users<'_>) -> Result<(), AllocError>
         ensures sound { OnOk result ((es : declared.Equations) → All (Follows es) users.now.equations.now → StaysSound es self.old self.new) }
         ensures fell { OnOk result (Fell self.old.counts.items self.new.counts.items) }
     {
         self.falls = 0;
-        let counts = self.counts.len();
-        let mut marks = vec![in alloc; None::<u32>; counts]?;
-        let mut bounded = Bounded::none(alloc, counts)?;
-        for index in 0..u32::try_from(counts).unwrap_or(u32::MAX) {
-            if let Some(met) = self.circle(marks.as_mut_slice(), index) {
-                self.lower_head(&mut bounded, users, met)?;
-            }
+        self.is_wide = !self.is_wide;
+        let mut bounded = Bounded::none(alloc, self.heads(alloc)?)?;
+        for index in 0..u32::try_from(self.counts.len()).unwrap_or(u32::MAX) {
+            self.lower_head(&mut bounded, users, index)?;
         }
         Ok(())
     }
@@ -395,8 +461,10 @@ impl Falling {
     {
         self.look_round(alloc, users)?;
         match self.take() {
-            Some(index) => {
-                self.lower_users(users, index)?;
+            Some((index, waits)) => {
+                if waits {
+                    self.lower_users(users, index)?;
+                }
                 Ok(true)
             }
             None => Ok(false),
@@ -429,7 +497,7 @@ impl Falling {
         ensures sound { OnOk result (StaysSound equations.now self.old self.new) }
         ensures fell { OnOk result (Fell self.old.counts.items self.new.counts.items) }
     {
-        self.order = Order::of(alloc, users, self.counts.len())?;
+        self.places = places(alloc, users, self.counts.len())?;
         self.waiting = vec![in alloc; false; self.counts.len()]?;
         self.lower_each(equations.all())?;
         self.settle(alloc, users)

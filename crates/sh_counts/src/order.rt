@@ -3,56 +3,25 @@
 use crate::users::Users;
 use std::alloc::{AllocError, Global};
 
-/// All counts in an order in which each comes after those that its equations take from, except
-/// round a circle: the reverse postorder of a depth-first search along the equations.
-#[derive(Drop)]
-pub struct Order {
-    // The counts by their places, and the places by the counts.
-    counts: Vec<u32>,
-    places: Vec<u32>,
-}
-
-impl Order {
-    /// The order of no counts.
-    pub fn none(alloc: Global) -> Order {
-        Order {
-            counts: Vec::new(alloc),
-            places: Vec::new(alloc),
-        }
+/// The places of so many counts in an order in which each comes after those that its equations
+/// take from, except round a circle: the reverse postorder of a depth-first search along the
+/// equations.
+///
+/// # Errors
+///
+/// If a growth was refused.
+pub fn places(alloc: Global, users: &Users<'_>, counts: usize) -> Result<Vec<u32>, AllocError> {
+    let mut search = Search {
+        seen: vec![in alloc; false; counts]?,
+        path: Vec::new(alloc),
+        left: Vec::new(alloc),
+    };
+    for index in 0..u32::try_from(counts).unwrap_or(u32::MAX) {
+        search.go_from(users, index)?;
     }
-
-    /// The order of so many counts.
-    ///
-    /// # Errors
-    ///
-    /// If a growth was refused.
-    pub fn of(alloc: Global, users: &Users<'_>, counts: usize) -> Result<Order, AllocError> {
-        let mut search = Search {
-            seen: vec![in alloc; false; counts]?,
-            path: Vec::new(alloc),
-            left: Vec::new(alloc),
-        };
-        for index in 0..u32::try_from(counts).unwrap_or(u32::MAX) {
-            search.go_from(users, index)?;
-        }
-        let mut counts = search.left;
-        counts.reverse();
-        let places = places_of(alloc, counts.as_slice())?;
-        Ok(Order { counts, places })
-    }
-
-    /// The place of a count.
-    pub fn place(&self, index: u32) -> u32 {
-        match self.places.get(index as usize) {
-            Some(place) => *place,
-            None => 0,
-        }
-    }
-
-    /// The count at a place.
-    pub fn at(&self, place: usize) -> Option<u32> {
-        self.counts.get(place).copied()
-    }
+    let mut counts = search.left;
+    counts.reverse();
+    places_of(alloc, counts.as_slice())
 }
 
 // A depth-first search from count to count along equations.

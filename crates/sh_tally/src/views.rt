@@ -55,6 +55,16 @@ impl View {
     fn floor(self, equations: &Equations) -> u16 {
         equations.floor(self.source).max(self.least)
     }
+
+    // How far it may fall. If that is no further than another view, what it makes of zero: a hint.
+    fn reach(self, equations: &Equations, first: View) -> (bool, u16) {
+        let floor = self.floor(equations);
+        if floor < first.floor(equations) {
+            (false, floor)
+        } else {
+            (true, equations.least(self.source).max(self.least))
+        }
+    }
 }
 
 // A view after expansions that leave at least so many parameters.
@@ -70,10 +80,7 @@ fn raised(view: Option<View>, least: u16) -> Option<View>
 
 // Whether a view claims less than another one: a hint. If both claim the same, the one with the
 // lower floor may fall further.
-fn is_less(places: &Places<'_>, equations: &Equations, view: View, other: Option<View>) -> bool {
-    let Some(other) = other else {
-        return true;
-    };
+fn is_less(places: &Places<'_>, equations: &Equations, view: View, other: View) -> bool {
     let claimed = view.args(places);
     let before = other.args(places);
     if claimed == before {
@@ -83,11 +90,13 @@ fn is_less(places: &Places<'_>, equations: &Equations, view: View, other: Option
     }
 }
 
-// The one of two views that may fall further: a hint. Claims decide only if the floors are equal,
-// since a view that falls by more at each turn may have the higher floor.
+// The one of two views that may fall further, if this is the first view: a hint. Claims decide only
+// if the floors are equal, since a view that falls by more at each turn may have the higher floor.
+// If neither may fall further than the first, a `shift` that comes later may lower one.
 fn lower(
     places: &Places<'_>,
     equations: &Equations,
+    first: View,
     view: Option<View>,
     other: Option<View>,
 ) -> Option<View>
@@ -99,9 +108,9 @@ fn lower(
     let Some(two) = other else {
         return view;
     };
-    let floor = one.floor(equations);
-    let last = two.floor(equations);
-    if last < floor || (last == floor && two.args(places) < one.args(places)) {
+    let reach = one.reach(equations, first);
+    let last = two.reach(equations, first);
+    if last < reach || (last == reach && two.args(places) < one.args(places)) {
         other
     } else {
         view
@@ -146,15 +155,21 @@ impl Views {
         if view.args(places).is_none() || self.first == Some(view) {
             return self;
         }
-        if is_less(places, equations, view, self.first) {
+        let Some(first) = self.first else {
             return Views {
                 first: Some(view),
-                second: lower(places, equations, self.first, self.second),
+                second: self.second,
+            };
+        };
+        if is_less(places, equations, view, first) {
+            return Views {
+                first: Some(view),
+                second: lower(places, equations, view, Some(first), self.second),
             };
         }
         Views {
             first: self.first,
-            second: lower(places, equations, self.second, Some(view)),
+            second: lower(places, equations, first, self.second, Some(view)),
         }
     }
 
