@@ -3,28 +3,52 @@ ghost use Rattle.std.specs.Prelude.{◌∷◌, ◌<◌, ◌≤◌, List, drop, l
 ghost use Rattle.sh_tree.specs.declared.tree.Link as list_link;
 ghost use Rattle.sh_tree.specs.declared.tree.Pipe as pipeline;
 ghost use Rattle.sh_domain.specs.Entries as entries;
+ghost use Rattle.sh_domain.specs.Knowledge.{knowledge_facts};
 ghost use Rattle.sh_rules.specs.Behind as spec;
 ghost use Rattle.sh_rules.specs.Walks as walks;
-ghost use Rattle.sh_sweeps.specs.Sweeps.{AreLinks, known_behind};
+ghost use Rattle.sh_sweeps.specs.Sweeps.{AreLinks, IsAndOr, known_behind};
 ghost use Rattle.sh_drafts.specs.Ready.{IsReady, IsSwept};
 
 use crate::sweep::sweep_pipe;
-use sh_domain::FlowRule;
+use sh_domain::{FlowRule, Knowledge};
 use sh_drafts::{Draft, Subject};
 use sh_rules::{Around, Behind};
-use sh_sweeps::nowhere::{link_if, nothing_behind};
+use sh_sweeps::nowhere::{link_if, nothing_behind, pipe_if};
 use sh_sweeps::waits::next_place;
-use sh_tree::{Link, Pipe};
+use sh_tree::{AndOr, Link, Pipe};
 use std::alloc::AllocError;
 
-/// Lowers the certificate at the pipelines after `&&` or `||`. Nothing is known before one to which
-/// nothing is new.
+/// Lowers the certificate at the pipelines after `&&` and `||` of a list, until none of them waits.
+/// Nothing is known after the first pipeline if nothing is new there.
 ///
 /// # Errors
 ///
 /// If a growth was refused.
 #[cycle(sweep)]
-pub fn sweep_links(
+#[inline(never)]
+pub fn sweep_joined(
+    subject: &Subject<'_>,
+    draft: &mut Draft,
+    levels: u32,
+    around: &Around<'_>,
+    known: &Knowledge,
+    list: &AndOr,
+    is_new: bool,
+) -> Result<(), AllocError>
+    requires ready { IsReady subject.now draft.old.certificate draft.old.probe.count }
+    requires placed { (by : FlowRule) × IsAndOr subject.now by (walks.around subject.now.script.now around.now) (knowledge_facts subject.now.names.now known.now) list.now }
+    ensures swept { IfOk result (λ unit. IsSwept subject.now draft.old.certificate draft.new.certificate draft.new.probe.count) }
+{
+    let links = list.rest.as_slice();
+    let mut behind = pipe_if(subject, &draft.certificate, known, &list.first, is_new);
+    sweep_links(subject, draft, levels, around, &mut behind, links)?;
+    sweep_links_again(subject, draft, levels, around, links)
+}
+
+// Lowers the certificate at the pipelines after `&&` or `||`. Nothing is known before one to which
+// nothing is new.
+#[cycle(sweep)]
+fn sweep_links(
     subject: &Subject<'_>,
     draft: &mut Draft,
     levels: u32,
@@ -99,14 +123,10 @@ fn pass_links(
     next
 }
 
-/// Goes over the pipelines after `&&` and `||` again, until none of them waits. So the list that
-/// they are in is joined once.
-///
-/// # Errors
-///
-/// If a growth was refused.
+// Goes over the pipelines after `&&` and `||` again, until none of them waits. So the list that
+// they are in is joined once.
 #[cycle(sweep)]
-pub fn sweep_links_again(
+fn sweep_links_again(
     subject: &Subject<'_>,
     draft: &mut Draft,
     levels: u32,

@@ -65,35 +65,6 @@ fn tell<A: Asked + Copy>(
     }
 }
 
-// What the flow rules ask at a command, gathered for a place and a function.
-fn asked_of(
-    subject: &Subject<'_>,
-    certificate: &Certificate,
-    by: FlowRule,
-    around: &Around<'_>,
-    known: &Knowledge,
-    command: &Command,
-    target: Target,
-) -> Gather
-    requires ready { (probed : ℕ) × IsReady subject.now certificate.now probed }
-    requires placed { IsCommand subject.now by (walks.around subject.now.script.now around.now) (knowledge_facts subject.now.names.now known.now) command.now }
-    ensures numbers { AreNumbers (length subject.now.names.now) (gathered_of result) }
-    ensures quiet { subject.now.stated ≡ true → IsQuiet (gathered_of result) }
-    ensures stands { (other : Sheet) → Keeps subject.now other → Stands subject.now.names.now other (gathered_of result) }
-{
-    let mut gather = Gather::new(target);
-    tell(
-        subject,
-        certificate,
-        by,
-        around,
-        known,
-        command,
-        &mut gather,
-    );
-    gather
-}
-
 // The index of a command, or the first if a script may not have its number: a hint.
 fn index_of(command: &Command) -> u16 {
     u16::try_from(command.number.saturating_sub(1)).unwrap_or(0)
@@ -121,6 +92,33 @@ fn is_unentered(draft: &Draft, place: Place) -> bool {
         && matches!(facts_at(&draft.certificate, place), Some(Facts::NotReached))
 }
 
+// Lowers what is claimed at a place, and what a function may drop, by what was gathered. Reports
+// whether it lowered any.
+fn lower_asked(
+    subject: &Subject<'_>,
+    draft: &mut Draft,
+    gather: &Gather,
+) -> Result<bool, AllocError>
+    requires ready { IsReady subject.now draft.old.certificate draft.old.probe.count }
+    requires numbers { AreNumbers (length subject.now.names.now) (gathered_of gather.now) }
+    requires quiet { subject.now.stated ≡ true → IsQuiet (gathered_of gather.now) }
+    requires stands { (other : Sheet) → Keeps subject.now other → Stands subject.now.names.now other (gathered_of gather.now) }
+    ensures swept { IfOk result (λ is_lowered. IsSwept subject.now draft.old.certificate draft.new.certificate draft.new.probe.count) }
+{
+    let target = gather.target;
+    let before = facts_at(&draft.certificate, target.place);
+    let drops = drops_of(&draft.certificate, target.function);
+    let is_lowered = lower_gathered(
+        subject.names,
+        subject.writable,
+        &mut draft.certificate,
+        &mut draft.probe,
+        gather,
+    )?;
+    note_lowered(subject, draft, target, before, drops, is_lowered)?;
+    Ok(is_lowered)
+}
+
 // Lowers what is claimed at a place, and what a function may drop, by what a command asks. Says
 // whether all of it was kept, and of what more was asked.
 fn lower_once(
@@ -137,25 +135,17 @@ fn lower_once(
     ensures swept { IfOk result (λ answer. IsSwept subject.now draft.old.certificate draft.new.certificate draft.new.probe.count) }
 {
     let is_first = is_unentered(&*draft, target.place);
-    let before = facts_at(&draft.certificate, target.place);
-    let drops = drops_of(&draft.certificate, target.function);
-    let gather = asked_of(
+    let mut gather = Gather::new(target);
+    tell(
         subject,
         &draft.certificate,
         by,
         around,
         known,
         command,
-        target,
+        &mut gather,
     );
-    let is_lowered = lower_gathered(
-        subject.names,
-        subject.writable,
-        &mut draft.certificate,
-        &mut draft.probe,
-        &gather,
-    )?;
-    note_lowered(subject, draft, target, before, drops, is_lowered)?;
+    let is_lowered = lower_asked(subject, draft, &gather)?;
     draft.entered = draft
         .entered
         .saturating_add(u64::from(is_lowered && is_first));
@@ -256,29 +246,6 @@ fn ask_behind(
     tell(subject, certificate, by, around, known, command, sides);
 }
 
-// Lowers what is claimed at the first of two places, and what a function may drop, by what was
-// gathered.
-fn lower_first(subject: &Subject<'_>, draft: &mut Draft, sides: &Sides) -> Result<(), AllocError>
-    requires ready { IsReady subject.now draft.old.certificate draft.old.probe.count }
-    requires numbers { AreNumbersBeside (length subject.now.names.now) (sided_of sides.now) }
-    requires quiet { subject.now.stated ≡ true → IsQuietBeside (sided_of sides.now) }
-    requires stands { (other : Sheet) → Keeps subject.now other → StandsBeside subject.now.names.now other (sided_of sides.now) }
-    ensures swept { IfOk result (λ unit. IsSwept subject.now draft.old.certificate draft.new.certificate draft.new.probe.count) }
-{
-    let target = sides.gather.target;
-    let before = facts_at(&draft.certificate, target.place);
-    let drops = drops_of(&draft.certificate, target.function);
-    let is_lowered = lower_gathered(
-        subject.names,
-        subject.writable,
-        &mut draft.certificate,
-        &mut draft.probe,
-        &sides.gather,
-    )?;
-    note_lowered(subject, draft, target, before, drops, is_lowered)?;
-    Ok(())
-}
-
 // Lowers what is claimed at the second of two places, if any run comes to it.
 fn lower_second(subject: &Subject<'_>, draft: &mut Draft, sides: &Sides) -> Result<(), AllocError>
     requires ready { IsReady subject.now draft.old.certificate draft.old.probe.count }
@@ -322,7 +289,7 @@ fn lower_sides(
     if sides.gather.kept {
         return Ok((true, sides.gather.next));
     }
-    lower_first(subject, draft, &sides)?;
+    lower_asked(subject, draft, &sides.gather)?;
     lower_second(subject, draft, &sides)?;
     Ok((false, sides.gather.next))
 }

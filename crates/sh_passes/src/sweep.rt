@@ -18,7 +18,7 @@ ghost use Rattle.sh_drafts.specs.Ready.{IsReady, IsSwept};
 
 use crate::bodies::{is_called_again, sweep_called};
 use crate::choices::{sweep_case, sweep_cond};
-use crate::links::{sweep_links, sweep_links_again};
+use crate::links::sweep_joined;
 use crate::looks::{is_before_next, traced};
 use crate::own::{is_entered, lower_behind, lower_command};
 use crate::rounds::sweep_rounds;
@@ -28,7 +28,7 @@ use sh_drafts::inner::is_in_elements;
 use sh_drafts::{Draft, Subject, look, look_again};
 use sh_rules::{Around, Course, alone, begun, in_function, meet};
 use sh_sweeps::known::{entry_of, head_of, pass_all, pass_on, process_of, started_in, turn_of};
-use sh_sweeps::nowhere::{inside_if, leave_all, leave_item, pipe_if};
+use sh_sweeps::nowhere::{inside_if, leave_all, leave_item};
 use sh_sweeps::waits::{Member, do_lists_wait, next_place, place_of_news};
 use sh_sweeps::{News, carry_over, lower_before};
 use sh_tree::{AndOr, Command, Item, Kind, LoopKind, Pipe, Script, Span};
@@ -243,9 +243,7 @@ fn sweep_and_or(
     if links.is_empty() || (!is_new && next_place(subject, &draft.waiting, links, 0).is_none()) {
         return Ok(());
     }
-    let mut behind = pipe_if(subject, &draft.certificate, known, &list.first, is_new);
-    sweep_links(subject, draft, levels, around, &mut behind, links)?;
-    sweep_links_again(subject, draft, levels, around, links)
+    sweep_joined(subject, draft, levels, around, known, list, is_new)
 }
 
 /// Lowers the certificate at the commands of a pipeline.
@@ -276,6 +274,7 @@ pub fn sweep_pipe(
 
 // Lowers the certificate at the parts of a pipeline of two or more, before which this is known.
 #[cycle(sweep)]
+#[inline(never)]
 fn sweep_processes(
     subject: &Subject<'_>,
     draft: &mut Draft,
@@ -461,7 +460,8 @@ fn sweep_held(
 }
 
 // Lowers the certificate in a compound command, and after it if something is new. Its words leave
-// nothing else than before.
+// nothing else than before. If nothing but what is in it is new, the lists of `if` and `case` have
+// lowered what it leaves.
 #[cycle(sweep)]
 fn sweep_compound(
     subject: &Subject<'_>,
@@ -484,7 +484,7 @@ fn sweep_compound(
     let before = draft.traces.falls;
     sweep_rounds(subject, draft, levels, by, around, known, command, is_new)?;
     sweep_again(subject, draft, levels, around, command, outer)?;
-    if !is_new && draft.traces.falls == before {
+    if !is_new && (draft.traces.falls == before || has_branches(&command.kind)) {
         return Ok(());
     }
     lower_behind(subject, draft, by, around, known, command)?;
@@ -608,11 +608,13 @@ fn sweep_conditional(
             otherwise,
         } => {
             let branches = branches.as_slice();
-            sweep_cond(subject, draft, levels, around, known, branches, otherwise)
+            sweep_cond(
+                subject, draft, levels, around, number, known, branches, otherwise,
+            )
         }
         Kind::Branches { word, clauses } => {
             let clauses = clauses.as_slice();
-            sweep_case(subject, draft, levels, around, known, word, clauses)
+            sweep_case(subject, draft, levels, around, number, known, word, clauses)
         }
         _ => sweep_iteration(subject, draft, levels, around, number, known, kind),
     }

@@ -2,14 +2,15 @@
 -- there.
 use Rattle.std.proofs.Common.{◌≡◌, ℕ, ◌-◌, Option, Some, None, List, [], ◌∷◌, ◌++◌, nat_lt, Bool, true, false, if◌then◌else◌, sym, ap, ◌∙◌, subst, true≢false, is_some, option_map, unwrap_or, refl, IfSome}
 use Rattle.sh_tree.specs.declared.tree.Command.{Command, out-Command}
+use Rattle.sh_tree.specs.declared.tree.Script.{Script}
 use Rattle.sh_tree.specs.standard.program.Syntax as p
 use Rattle.sh_tree.specs.standard.program.Syntax.{Text}
 use Rattle.sh_tree.specs.standard.program.Trees as trees
 use Rattle.sh_tree.proofs.ProgramRules as rules
 use Rattle.sh_domain.specs.Filled.{is_stated}
 use Rattle.sh_domain.specs.declared.rule.FlowRule.{FlowRule}
-use Rattle.sh_domain.specs.declared.rule.FlowRule.TheVariants.{F4, F5, F13}
-use Rattle.sh_domain.specs.Entries.{Around, Entered, behind_redirects, command_entered}
+use Rattle.sh_domain.specs.declared.rule.FlowRule.TheVariants.{F4, F5, F6, F13}
+use Rattle.sh_domain.specs.Entries.{Around, Entered, behind_redirects, command_entered, items_after, otherwise_seen}
 use Rattle.sh_domain.specs.Facts.{Facts, facts}
 use Rattle.sh_domain.specs.Faults.{broken}
 use Rattle.sh_domain.specs.Inclusions.{Each}
@@ -21,18 +22,19 @@ use Rattle.sh_domain.specs.Rules.{Constraint, bound, bounds, losses}
 use Rattle.sh_domain.specs.Sheets.{Sheet}
 use Rattle.sh_domain.specs.Table.{Nameless, Utility, after_nameless, after_utility, assignments_gains, behind_words, is_redirected, manner}
 use Rattle.sh_runs.specs.declared.kind.Kind.TheVariants as kind
-use Rattle.sh_tree.specs.Lists.{elements_from, redirects_from}
+use Rattle.sh_tree.specs.Lists.{branches_from, elements_from, otherwise_from, redirects_from}
 use Rattle.sh_tree.specs.standard.Words.{elements_of}
 use Rattle.sh_tree.specs.standard.program.Words.{redirects_in}
 use Rattle.sh_domain.specs.Views as views
-use Rattle.sh_domain.specs.Views.{AfterNonzero, AfterZero, Certificate, ReturnsNonzero, ReturnsZero, Seen, Slot, gaining, view_facts}
+use Rattle.sh_domain.specs.Views.{After, AfterNonzero, AfterZero, Certificate, ReturnsNonzero, ReturnsZero, Seen, Slot, gaining, view_facts}
 use Rattle.sh_domain.proofs.EachLemmas.{each_parts}
 use Rattle.sh_domain.proofs.MonotoneLemmas.{told_none}
 use Rattle.sh_domain.proofs.OrderLemmas.{meet_first, meet_greatest, within_nowhere, within_test, within_through}
+use Rattle.sh_rules.specs.Behind.{Behind}
 use Rattle.sh_rules.specs.Meaning.{sees}
 use Rattle.sh_rules.proofs.AboveLemmas.{among_grows}
 use Rattle.sh_domain.specs.Admitted.{IsAdmitted, claims_in, functions_in}
-use Rattle.sh_drafts.specs.declared.place.Part.TheVariants.{Before}
+use Rattle.sh_drafts.specs.declared.place.Part.TheVariants.{Before, Nonzero, Zero}
 use Rattle.sh_drafts.specs.declared.place.Place.{Place}
 use Rattle.sh_drafts.specs.declared.spot.Spot.{Spot}
 use Rattle.sh_drafts.specs.declared.subject.Subject.{Subject}
@@ -41,7 +43,7 @@ use Rattle.sh_drafts.specs.Places.{at, claim_there, place_of}
 use Rattle.sh_drafts.specs.Spots.{place_at}
 use Rattle.sh_drafts.specs.Stated.{is_asked, is_free}
 use Rattle.sh_sweeps.specs.Plain.{IsAssigning, IsPlain}
-use Rattle.sh_sweeps.specs.Sweeps.{IsCommand, IsPart, Knows}
+use Rattle.sh_sweeps.specs.Sweeps.{AreBranches, AreKept, ClaimsWithin, IsCommand, IsInside, IsLeft, IsPart, Knows, KnowsBehind}
 use Rattle.sh_drafts.specs.Ready.{Keeps}
 use Rattle.sh_drafts.specs.Starts.{start_of}
 use Rattle.sh_drafts.proofs.GatherLemmas.{claim_among}
@@ -165,8 +167,7 @@ module _ (s : Subject) (admitted : IsAdmitted s.script.now s.policy.now s.tree.n
   kept_there by y q m part = (keeps_here s admitted (record { command = m; rule = by; around = y; seen = q } ∷ []) (own_of s by y q m part) other keeps).0
 
 module _ (s : Subject) (admitted : IsAdmitted s.script.now s.policy.now s.tree.now s.names.now) where
-  pub before_within : (by : FlowRule) (y : Around) (k : Facts) (c : Command) (here : IsCommand s by y k c) (other : Sheet) (keeps : Keeps s other)
-      → IsWithin (facts (claim_there other (Some (at Before ((out-Command c).number - 1))))) k
+  pub before_within : (by : FlowRule) (y : Around) (k : Facts) (c : Command) (here : IsCommand s by y k c) → ClaimsWithin s Before (out-Command c).number k
   unfolding place_of
   before_within by y k c here other keeps =
       slot_within s admitted other keeps (views.Before (out-Command c).number) here.seen k
@@ -241,6 +242,55 @@ module _ (s : Subject) (admitted : IsAdmitted s.script.now s.policy.now s.tree.n
         let left : Left (gaining (assignments_gains es) behind) =
         λ other keeps. assigned_within s.stated (start_of s) (claims s admitted other keeps) (functions s admitted other keeps) y n (behind_redirects n rs) es assigning.named assigning.redirected (kind_rules assigning.simple other keeps) in
         known_left assigning.simple (gaining (assignments_gains es) behind) l left (settled behind (gained (views.at (views.Before n)) (simple_entered assigning.simple)))
+
+  -- what a command asks by its kind
+  pub kind_kept : (y : Around) (c : Command) (here : IsInside s y c)
+      → AreKept s (r.kind_bounds (functions_in s.script.now s.tree.now) y (out-Command c).number (behind_redirects (out-Command c).number (redirects_from s.script.now (out-Command c).redirects)) (trees.kind_of s.script.now (out-Command c).kind))
+  kind_kept y c here other keeps =
+      (parts_of s.stated (start_of s) (claims s admitted other keeps) (functions s admitted other keeps) _ _ _ _ here.by y here.seen
+      (subst (λ m. KeepsAsked s admitted other (record { command = m; rule = here.by; around = y; seen = here.seen })) (rules.command_of-out s.script.now c)
+      (kept_there s admitted other keeps here.by y here.seen (trees.command_of s.script.now c) here.part))).1
+
+  -- after a command whose rules ask this
+  pub zero_within : (n : ℕ) (by : FlowRule) (q : Seen) (k : Facts) → AreKept s (bound (AfterZero n) n by q) → Knows s q k → ClaimsWithin s Zero n k
+  unfolding place_of
+  zero_within n by q k asked knows other keeps =
+      slot_within s admitted other keeps (AfterZero n) q k
+      (entered_within s.stated (start_of s) (claims s admitted other keeps) (AfterZero n) n by q (free_after s.stated (start_of s) (claims s admitted other keeps) n).0 (asked other keeps)) knows
+
+  pub nonzero_within : (n : ℕ) (by : FlowRule) (q : Seen) (k : Facts) → AreKept s (bound (AfterNonzero n) n by q) → Knows s q k → ClaimsWithin s Nonzero n k
+  unfolding place_of
+  nonzero_within n by q k asked knows other keeps =
+      slot_within s admitted other keeps (AfterNonzero n) q k
+      (entered_within s.stated (start_of s) (claims s admitted other keeps) (AfterNonzero n) n by q (free_after s.stated (start_of s) (claims s admitted other keeps) n).1 (asked other keeps)) knows
+
+  -- after one that leaves what a list does
+  module _ (y : Around) (n : ℕ) (by : FlowRule) (k : Facts) (t : p.Items) (here : IsLeft s y n by k t) (b : Behind)
+      (after : (q : Seen) → Knows s q k → KnowsBehind s (items_after (views.Both q) t) b) where
+    abbrev listed : After
+    listed = items_after (views.Both here.inside.seen) t
+
+    pub left_zero : ClaimsWithin s Zero n b.zero
+    left_zero =
+        zero_within n by (views.if_zero listed) b.zero (λ other keeps. (each_parts _ (bound (AfterZero n) n by (views.if_zero listed)) (bound (AfterNonzero n) n by (views.if_nonzero listed)) (here.asked other keeps)).0)
+        (λ other keeps. (after here.inside.seen here.inside.knows other keeps).zero)
+
+    pub left_nonzero : ClaimsWithin s Nonzero n b.nonzero
+    left_nonzero =
+        nonzero_within n by (views.if_nonzero listed) b.nonzero (λ other keeps. (each_parts _ (bound (AfterZero n) n by (views.if_zero listed)) (bound (AfterNonzero n) n by (views.if_nonzero listed)) (here.asked other keeps)).1)
+        (λ other keeps. (after here.inside.seen here.inside.knows other keeps).nonzero)
+
+  -- after an `if` without `else`
+  none_asked : (y : Around) (n : ℕ) (k : Facts) (here : AreBranches s y n k p.no_branches p.no_else) → AreKept s (bound (AfterZero n) n F6 here.seen)
+  unfolding r.otherwise_bounds otherwise_seen
+  none_asked y n k here = here.asked_last
+
+  pub unmatched_zero : (y : Around) (n : ℕ) (k : Facts) (o : Option Script) → o ≡ None → AreBranches s y n k (branches_from s.script.now []) (otherwise_from s.script.now o) → ClaimsWithin s Zero n k
+  unmatched_zero y n k o is here =
+      let there : AreBranches s y n k p.no_branches p.no_else =
+      subst (λ bs. AreBranches s y n k bs p.no_else) (rules.branches_from-empty s.script.now)
+      (subst (AreBranches s y n k (branches_from s.script.now [])) (ap (otherwise_from s.script.now) is ∙ rules.otherwise_from-None s.script.now) here) in
+      zero_within n F6 there.seen k (none_asked y n k there) there.knows
 
   -- after the body of a definition
   module _ (by : FlowRule) (y : Around) (q : Seen) (n offset : ℕ) (name : Text) (body : Command) (rs : p.Redirects)

@@ -1,6 +1,6 @@
 -- Where a sweep is in a command, by where it is before it: a lemma for each kind of command (XCU
 -- 2.9).
-use Rattle.std.proofs.Common.{◌≡◌, ◌≢◌, ℕ, zero, suc, not, ◌+◌, ◌-◌, ◌<◌, ◌≤◌, Bool, true, false, Option, Some, List, [], ◌∷◌, ◌++◌, append_assoc, append-nil, drop, get_or, length, nat_lt, refl, sym, ap, ◌∙◌, subst, take, arith}
+use Rattle.std.proofs.Common.{◌≡◌, ◌≢◌, ℕ, zero, suc, not, ◌+◌, ◌-◌, ◌<◌, ◌≤◌, Bool, true, false, if◌then◌else◌, Option, Some, List, [], ◌∷◌, ◌++◌, append_assoc, append-nil, drop, get_or, length, nat_lt, refl, sym, ap, ◌∙◌, subst, take, arith}
 use Rattle.std.proofs.lemmas.Bool.Decides.{nat_tests}
 use Rattle.std.proofs.lemmas.List.{drop-drop, take-append-drop}
 use Rattle.std.proofs.Math.Seq.{drop-cons}
@@ -24,11 +24,13 @@ use Rattle.sh_domain.specs.declared.rule.FlowRule.{FlowRule}
 use Rattle.sh_domain.specs.declared.rule.FlowRule.TheVariants.{F1, F2, F3, F6, F7, F8, F9, F10, F11, F12, F13}
 use Rattle.sh_domain.specs.Entries as e
 use Rattle.sh_domain.specs.Entries.{Around, Entered, behind_redirects}
+use Rattle.sh_domain.proofs.EachLemmas.{each_parts}
 use Rattle.sh_domain.proofs.OrderLemmas.{within_nowhere}
 use Rattle.sh_domain.specs.Order.{IsWithin}
 use Rattle.sh_domain.specs.Facts.{Facts, NotReached, Nowhere, claims, meet}
 use Rattle.sh_domain.specs.Gains.{word_gains}
 use Rattle.sh_domain.specs.Knowledge.{AreNumbered, among, knowledge_facts}
+use Rattle.sh_domain.specs.Rules as r
 use Rattle.sh_domain.specs.declared.knowledge.Knowledge.{Knowledge}
 use Rattle.sh_domain.specs.Views as views
 use Rattle.sh_domain.specs.Views.{After, Before, Both, Entry, Head, Seen, at, at_start, gaining, gaining_names, if_nonzero, if_zero}
@@ -38,10 +40,10 @@ use Rattle.sh_rules.specs.Behind as behind
 use Rattle.sh_rules.proofs.AboveLemmas.{stays_above}
 use Rattle.sh_rules.proofs.LedLemmas.{any_led, falls_led, link_led}
 use Rattle.sh_rules.proofs.WalkLemmas.{long_parts}
-use Rattle.sh_domain.specs.Admitted.{claims_in}
+use Rattle.sh_domain.specs.Admitted.{claims_in, functions_in}
 use Rattle.sh_drafts.specs.declared.subject.Subject.{Subject}
 use Rattle.sh_sweeps.specs.Asked.{gathering}
-use Rattle.sh_sweeps.specs.Sweeps.{AreBranches, AreClauses, AreItems, AreLinks, AreParts, ArePassed, IsAndOr, IsCommand, IsIn, IsInside, IsList, IsPart, IsPassed, IsPipe, Knows, KnowsBehind, known_behind, setting_by}
+use Rattle.sh_sweeps.specs.Sweeps.{AreBranches, AreClauses, AreItems, AreKept, AreLinks, AreParts, ArePassed, IsAndOr, IsCase, IsCommand, IsInside, IsLeft, IsList, IsPart, IsPassed, IsPipe, Knows, KnowsBehind, known_behind, setting_by}
 use Rattle.sh_drafts.specs.Ready.{IsOver}
 use Rattle.sh_drafts.specs.Starts.{start_of}
 use Rattle.sh_sweeps.proofs.KnownLemmas.{unreached}
@@ -66,8 +68,13 @@ module _ (s : Subject) where
       last_part s (record { command = p.command n offset kind rs; rule = by; around = y; seen = q } ∷ []) (e.redirects_entered (at (Before n)) rs ++ e.kind_entered y n (behind_redirects n rs) kind) part
 
   pub inside_placed : (by : FlowRule) (y : Around) (k : Facts) (c : Command) → IsCommand s by y k c → IsInside s y c
-  inside_placed by y k c in_it =
-      inside_part by y in_it.seen _ _ _ _ (subst (λ m. IsPart s (e.command_entered by y in_it.seen m)) (rules.command_of-out s.script.now c) in_it.part)
+  inside_placed by y k c in_it = record { by = by; seen = in_it.seen; part = in_it.part }
+
+  pub inside_parts : (y : Around) (c : Command) → IsInside s y c
+      → IsPart s (e.redirects_entered (at (Before (out-Command c).number)) (redirects_from s.script.now (out-Command c).redirects)
+      ++ e.kind_entered y (out-Command c).number (behind_redirects (out-Command c).number (redirects_from s.script.now (out-Command c).redirects)) (trees.kind_of s.script.now (out-Command c).kind))
+  inside_parts y c here =
+      inside_part here.by y here.seen _ _ _ _ (subst (λ m. IsPart s (e.command_entered here.by y here.seen m)) (rules.command_of-out s.script.now c) here.part)
 
   -- a definition, and what is in it
   pub defined_placed : (by : FlowRule) (y : Around) (q : Seen) (c : Command) (v : Kind) (name : p.Text) (body : p.Command) → (out-Command c).kind ≡ v → trees.kind_of s.script.now v ≡ p.Define name body
@@ -123,14 +130,21 @@ module _ (s : Subject) where
     knows = knows;
   }
 
-  pub branches_placed : (y : Around) (n : ℕ) (q : Seen) (k : Facts) (bs : p.Branches) (z : p.Otherwise) → IsPart s (e.kind_entered y n q (p.Conditional bs z)) → Knows s q k → AreBranches s y k bs z
-  unfolding e.items_entered
-  branches_placed y n q k bs z part knows = record { seen = q; part = part; knows = knows }
+  pub branches_placed : (y : Around) (n : ℕ) (q : Seen) (k : Facts) (bs : p.Branches) (z : p.Otherwise) → IsPart s (e.kind_entered y n q (p.Conditional bs z)) → Knows s q k
+      → AreKept s (r.kind_bounds (functions_in s.script.now s.tree.now) y n q (p.Conditional bs z)) → AreBranches s y n k bs z
+  unfolding e.items_entered r.kind_bounds
+  branches_placed y n q k bs z part knows asked = record {
+    seen = q;
+    part = part;
+    asked = λ other keeps. (each_parts _ _ _ (asked other keeps)).0;
+    asked_last = λ other keeps. (each_parts _ _ _ (asked other keeps)).1;
+    knows = knows;
+  }
 
   pub case_placed : (y : Around) (n : ℕ) (q : Seen) (k : Facts) (w : p.Word) (cs : p.Clauses) → IsPart s (e.kind_entered y n q (p.Case w cs)) → Knows s q k
-      → IsIn s (λ r. e.word_entered r w ++ e.clauses_entered y (gaining (word_gains w) r) [] cs) k
-  unfolding e.items_entered
-  case_placed y n q k w cs part knows = record { seen = q; part = part; knows = knows }
+      → AreKept s (r.kind_bounds (functions_in s.script.now s.tree.now) y n q (p.Case w cs)) → IsCase s y n k w cs
+  unfolding e.items_entered r.kind_bounds
+  case_placed y n q k w cs part knows asked = record { inside = record { seen = q; part = part; knows = knows }; asked = λ other keeps. (each_parts _ _ _ (asked other keeps)).0 }
 
   -- A list that is entered
 
@@ -193,26 +207,29 @@ module _ (s : Subject) where
 
   -- The branches of an `if`
 
-  pub branch_condition : (y : Around) (k : Facts) (c : Branch) (cs : List Branch) (z : p.Otherwise) → AreBranches s y k (branches_from s.script.now (c ∷ cs)) z
+  pub branch_condition : (y : Around) (n : ℕ) (k : Facts) (c : Branch) (cs : List Branch) (z : p.Otherwise) → AreBranches s y n k (branches_from s.script.now (c ∷ cs)) z
       → IsList s F6 y k (script_of s.script.now (out-Branch c).condition)
   unfolding e.items_entered branches_from
-  branch_condition y k c cs z here = record { seen = here.seen; part = first_part s _ _ (first_part s _ _ (first_part s _ _ here.part)); knows = here.knows }
+  branch_condition y n k c cs z here = record { seen = here.seen; part = first_part s _ _ (first_part s _ _ (first_part s _ _ here.part)); knows = here.knows }
 
-  pub branch_body : (y : Around) (k left : Facts) (c : Branch) (cs : List Branch) (z : p.Otherwise)
-      → ((q : Seen) → Knows s q k → Knows s (if_zero (e.items_after (Both q) (script_of s.script.now (out-Branch c).condition))) left) → AreBranches s y k (branches_from s.script.now (c ∷ cs)) z
-      → IsList s F6 y left (script_of s.script.now (out-Branch c).body)
-  unfolding e.items_entered branches_from
-  branch_body y k left c cs z known here = record {
-    seen = if_zero (e.items_after (Both here.seen) (script_of s.script.now (out-Branch c).condition));
-    part = last_part s (e.items_entered F6 y (Both here.seen) (script_of s.script.now (out-Branch c).condition)) _ (first_part s _ _ (first_part s _ _ here.part));
-    knows = known here.seen here.knows;
+  pub branch_body : (y : Around) (n : ℕ) (k left : Facts) (c : Branch) (cs : List Branch) (z : p.Otherwise)
+      → ((q : Seen) → Knows s q k → Knows s (if_zero (e.items_after (Both q) (script_of s.script.now (out-Branch c).condition))) left) → AreBranches s y n k (branches_from s.script.now (c ∷ cs)) z
+      → IsLeft s y n F6 left (script_of s.script.now (out-Branch c).body)
+  unfolding e.items_entered branches_from r.branches_bounds
+  branch_body y n k left c cs z known here = record {
+    inside = record {
+      seen = if_zero (e.items_after (Both here.seen) (script_of s.script.now (out-Branch c).condition));
+      part = last_part s (e.items_entered F6 y (Both here.seen) (script_of s.script.now (out-Branch c).condition)) _ (first_part s _ _ (first_part s _ _ here.part));
+      knows = known here.seen here.knows;
+    };
+    asked = λ other keeps. (each_parts _ _ _ (here.asked other keeps)).0;
   }
 
-  pub branches_next : (y : Around) (k nonzero : Facts) (c : Branch) (cs : List Branch) (z : p.Otherwise)
-      → ((q : Seen) → Knows s q k → Knows s (if_nonzero (e.items_after (Both q) (script_of s.script.now (out-Branch c).condition))) nonzero) → AreBranches s y k (branches_from s.script.now (c ∷ cs)) z
-      → AreBranches s y nonzero (branches_from s.script.now cs) z
-  unfolding e.items_entered e.otherwise_seen branches_from
-  branches_next y k nonzero c cs z known here =
+  pub branches_next : (y : Around) (n : ℕ) (k nonzero : Facts) (c : Branch) (cs : List Branch) (z : p.Otherwise)
+      → ((q : Seen) → Knows s q k → Knows s (if_nonzero (e.items_after (Both q) (script_of s.script.now (out-Branch c).condition))) nonzero) → AreBranches s y n k (branches_from s.script.now (c ∷ cs)) z
+      → AreBranches s y n nonzero (branches_from s.script.now cs) z
+  unfolding e.items_entered e.otherwise_seen branches_from r.branches_bounds
+  branches_next y n k nonzero c cs z known here =
       let q : Seen = here.seen in
       let o : After = e.items_after (Both q) (script_of s.script.now (out-Branch c).condition) in
       let condition : List Entered = e.items_entered F6 y (Both q) (script_of s.script.now (out-Branch c).condition) in
@@ -222,66 +239,96 @@ module _ (s : Subject) where
       record {
         seen = if_nonzero o;
         part = last_part s (condition ++ body) (others ++ last) (subst (IsPart s) (append_assoc (condition ++ body) others last) here.part);
+        asked = λ other keeps. (each_parts _ _ _ (here.asked other keeps)).1;
+        asked_last = here.asked_last;
         knows = known q here.knows;
       }
 
-  pub otherwise_placed : (y : Around) (k : Facts) (t : p.Items) → AreBranches s y k p.no_branches (p.else_of t) → IsList s F6 y k t
-  unfolding e.items_entered e.otherwise_seen
-  otherwise_placed y k t here = record { seen = here.seen; part = here.part; knows = here.knows }
+  pub otherwise_placed : (y : Around) (n : ℕ) (k : Facts) (t : p.Items) → AreBranches s y n k p.no_branches (p.else_of t) → IsLeft s y n F6 k t
+  unfolding e.items_entered e.otherwise_seen r.otherwise_bounds
+  otherwise_placed y n k t here = record { inside = record { seen = here.seen; part = here.part; knows = here.knows }; asked = here.asked_last }
 
-  pub else_placed : (y : Around) (k : Facts) (o : Option Script) (t : Script) → o ≡ Some t → AreBranches s y k (branches_from s.script.now []) (otherwise_from s.script.now o) → IsList s F6 y k (script_of s.script.now t)
-  else_placed y k o t is here =
-      otherwise_placed y k (script_of s.script.now t)
-      (subst (λ bs. AreBranches s y k bs (p.else_of (script_of s.script.now t))) (rules.branches_from-empty s.script.now)
-      (subst (AreBranches s y k (branches_from s.script.now [])) (ap (otherwise_from s.script.now) is ∙ rules.otherwise_from-Some s.script.now t) here))
+  pub else_placed : (y : Around) (n : ℕ) (k : Facts) (o : Option Script) (t : Script) → o ≡ Some t → AreBranches s y n k (branches_from s.script.now []) (otherwise_from s.script.now o)
+      → IsLeft s y n F6 k (script_of s.script.now t)
+  else_placed y n k o t is here =
+      otherwise_placed y n k (script_of s.script.now t)
+      (subst (λ bs. AreBranches s y n k bs (p.else_of (script_of s.script.now t))) (rules.branches_from-empty s.script.now)
+      (subst (AreBranches s y n k (branches_from s.script.now [])) (ap (otherwise_from s.script.now) is ∙ rules.otherwise_from-Some s.script.now t) here))
 
   -- The clauses of a `case`
 
-  pub clauses_placed : (y : Around) (k behind : Facts) (w : p.Word) (cs : p.Clauses) → ((q : Seen) → Knows s q k → Knows s (gaining (word_gains w) q) behind)
-      → IsIn s (λ q. e.word_entered q w ++ e.clauses_entered y (gaining (word_gains w) q) [] cs) k → (c : kept.Certificate) → AreNumbered s.names.now → IsOver s c → AreClauses s y behind NotReached cs
-  clauses_placed y k behind w cs known here c h over = record {
-    seen = gaining (word_gains w) here.seen;
+  pub clauses_placed : (y : Around) (n : ℕ) (k behind : Facts) (w : p.Word) (cs : p.Clauses) → ((q : Seen) → Knows s q k → Knows s (gaining (word_gains w) q) behind)
+      → IsCase s y n k w cs → (c : kept.Certificate) → AreNumbered s.names.now → IsOver s c → AreClauses s y n behind NotReached cs
+  clauses_placed y n k behind w cs known here c h over = record {
+    seen = gaining (word_gains w) here.inside.seen;
     falls = [];
-    part = last_part s (e.word_entered here.seen w) (e.clauses_entered y (gaining (word_gains w) here.seen) [] cs) here.part;
-    knows = known here.seen here.knows;
+    part = last_part s (e.word_entered here.inside.seen w) (e.clauses_entered y (gaining (word_gains w) here.inside.seen) [] cs) here.inside.part;
+    asked = here.asked;
+    knows = known here.inside.seen here.inside.knows;
     knows_fallen = (knows_follow s c h over).nothing;
   }
 
-  pub clause_list : (y : Around) (k fallen known : Facts) (c : Clause) (cs : List Clause) → known ≡ meet k fallen → (x : kept.Certificate) → AreNumbered s.names.now → IsOver s x
-      → AreClauses s y k fallen (clauses_from s.script.now (c ∷ cs)) → IsList s F9 y known (script_of s.script.now (out-Clause c).body)
+  clause_met : (y : Around) (n : ℕ) (k fallen known : Facts) (cs : p.Clauses) → known ≡ meet k fallen → (x : kept.Certificate) → AreNumbered s.names.now → IsOver s x
+      → (here : AreClauses s y n k fallen cs) → Knows s (here.seen ++ here.falls) known
+  clause_met y n k fallen known cs same x h over here =
+      subst (Knows s (here.seen ++ here.falls)) (sym same) ((knows_follow s x h over).joined here.seen here.falls k fallen here.knows here.knows_fallen)
+
+  clause_part : (y : Around) (n : ℕ) (k fallen : Facts) (c : Clause) (cs : List Clause) (here : AreClauses s y n k fallen (clauses_from s.script.now (c ∷ cs)))
+      → IsPart s (e.items_entered F9 y (Both (here.seen ++ here.falls)) (script_of s.script.now (out-Clause c).body))
   unfolding e.items_entered clauses_from
-  clause_list y k fallen known c cs same x h over here = record {
+  clause_part y n k fallen c cs here =
+      let q : Seen = here.seen ++ here.falls in
+      let patterns : List Entered = e.patterns_entered here.seen (words_from s.script.now (out-Clause c).patterns) in
+      let listed : List Entered = e.items_entered F9 y (Both q) (script_of s.script.now (out-Clause c).body) in
+      last_part s patterns listed (first_part s (patterns ++ listed) (e.clauses_entered y here.seen (e.falls (out-Clause c).end (e.items_after (Both q) (script_of s.script.now (out-Clause c).body))) (clauses_from s.script.now cs)) here.part)
+
+  pub clause_list : (y : Around) (n : ℕ) (k fallen known : Facts) (c : Clause) (cs : List Clause) → known ≡ meet k fallen → (x : kept.Certificate) → AreNumbered s.names.now → IsOver s x
+      → AreClauses s y n k fallen (clauses_from s.script.now (c ∷ cs)) → IsList s F9 y known (script_of s.script.now (out-Clause c).body)
+  clause_list y n k fallen known c cs same x h over here = record {
     seen = here.seen ++ here.falls;
-    part = last_part s (e.patterns_entered here.seen (words_from s.script.now (out-Clause c).patterns)) (e.items_entered F9 y (Both (here.seen ++ here.falls)) (script_of s.script.now (out-Clause c).body)) (first_part s (e.patterns_entered here.seen (words_from s.script.now (out-Clause c).patterns) ++ e.items_entered F9 y (Both (here.seen ++ here.falls)) (script_of s.script.now (out-Clause c).body)) (e.clauses_entered y here.seen (e.falls (out-Clause c).end (e.items_after (Both (here.seen ++ here.falls)) (script_of s.script.now (out-Clause c).body))) (clauses_from s.script.now cs)) here.part);
-    knows = subst (Knows s (here.seen ++ here.falls)) (sym same) ((knows_follow s x h over).joined here.seen here.falls k fallen here.knows here.knows_fallen);
+    part = clause_part y n k fallen c cs here;
+    knows = clause_met y n k fallen known _ same x h over here;
   }
 
-  pub clauses_next : (y : Around) (k fallen known : Facts) (b : Behind) (next : Facts) (c : Clause) (cs : List Clause) → known ≡ meet k fallen → next ≡ behind.falls (out-Clause c).end b
+  -- if no list that falls through is after it, the whole leaves what it does
+  pub clause_left : (y : Around) (n : ℕ) (k fallen known : Facts) (c : Clause) (cs : List Clause) → known ≡ meet k fallen → (x : kept.Certificate) → AreNumbered s.names.now → IsOver s x
+      → AreClauses s y n k fallen (clauses_from s.script.now (c ∷ cs)) → r.is_last (out-Clause c).end (clauses_from s.script.now cs) ≡ true → IsLeft s y n F9 known (script_of s.script.now (out-Clause c).body)
+  unfolding clauses_from r.clauses_bounds
+  clause_left y n k fallen known c cs same x h over here last =
+      let listed : After = e.items_after (Both (here.seen ++ here.falls)) (script_of s.script.now (out-Clause c).body) in
+      record {
+        inside = record { seen = here.seen ++ here.falls; part = clause_part y n k fallen c cs here; knows = clause_met y n k fallen known _ same x h over here };
+        asked = subst (λ b. AreKept s (if b then r.leaves n F9 listed else [])) last
+            (λ other keeps. (each_parts _ (if r.is_last (out-Clause c).end (clauses_from s.script.now cs) then r.leaves n F9 listed else []) _ (here.asked other keeps)).0);
+      }
+
+  pub clauses_next : (y : Around) (n : ℕ) (k fallen known : Facts) (b : Behind) (next : Facts) (c : Clause) (cs : List Clause) → known ≡ meet k fallen → next ≡ behind.falls (out-Clause c).end b
       → ((q : Seen) → Knows s q known → KnowsBehind s (e.items_after (Both q) (script_of s.script.now (out-Clause c).body)) b) → (x : kept.Certificate) → AreNumbered s.names.now → IsOver s x
-      → AreClauses s y k fallen (clauses_from s.script.now (c ∷ cs)) → AreClauses s y k next (clauses_from s.script.now cs)
-  unfolding e.items_entered clauses_from
-  clauses_next y k fallen known b next c cs same left behind x h over here =
+      → AreClauses s y n k fallen (clauses_from s.script.now (c ∷ cs)) → AreClauses s y n k next (clauses_from s.script.now cs)
+  unfolding e.items_entered clauses_from r.clauses_bounds
+  clauses_next y n k fallen known b next c cs same left behind x h over here =
       let q : Seen = here.seen ++ here.falls in
       let o : After = e.items_after (Both q) (script_of s.script.now (out-Clause c).body) in
-      let met : Knows s q known = subst (Knows s q) (sym same) ((knows_follow s x h over).joined here.seen here.falls k fallen here.knows here.knows_fallen) in
       record {
         seen = here.seen;
         falls = e.falls (out-Clause c).end o;
         part = last_part s (e.patterns_entered here.seen (words_from s.script.now (out-Clause c).patterns) ++ e.items_entered F9 y (Both q) (script_of s.script.now (out-Clause c).body)) (e.clauses_entered y here.seen (e.falls (out-Clause c).end o) (clauses_from s.script.now cs)) here.part;
+        asked = λ other keeps. (each_parts _ _ _ (here.asked other keeps)).1;
         knows = here.knows;
-        knows_fallen = subst (Knows s (e.falls (out-Clause c).end o)) (sym left) (falls_led (setting_by s x) (Knows s) (knows_follow s x h over) (out-Clause c).end o b (stands_of s o b (behind q met)));
+        knows_fallen = subst (Knows s (e.falls (out-Clause c).end o)) (sym left) (falls_led (setting_by s x) (Knows s) (knows_follow s x h over) (out-Clause c).end o b (stands_of s o b (behind q (clause_met y n k fallen known _ same x h over here))));
       }
 
   -- or if nothing of what is known after it is kept
-  pub clauses_idle : (y : Around) (k fallen : Facts) (c : Clause) (cs : List Clause) → AreClauses s y k fallen (clauses_from s.script.now (c ∷ cs)) → AreClauses s y k NotReached (clauses_from s.script.now cs)
-  unfolding e.items_entered clauses_from
-  clauses_idle y k fallen c cs here =
+  pub clauses_idle : (y : Around) (n : ℕ) (k fallen : Facts) (c : Clause) (cs : List Clause) → AreClauses s y n k fallen (clauses_from s.script.now (c ∷ cs)) → AreClauses s y n k NotReached (clauses_from s.script.now cs)
+  unfolding e.items_entered clauses_from r.clauses_bounds
+  clauses_idle y n k fallen c cs here =
       let q : Seen = here.seen ++ here.falls in
       let o : After = e.items_after (Both q) (script_of s.script.now (out-Clause c).body) in
       record {
         seen = here.seen;
         falls = e.falls (out-Clause c).end o;
         part = last_part s (e.patterns_entered here.seen (words_from s.script.now (out-Clause c).patterns) ++ e.items_entered F9 y (Both q) (script_of s.script.now (out-Clause c).body)) (e.clauses_entered y here.seen (e.falls (out-Clause c).end o) (clauses_from s.script.now cs)) here.part;
+        asked = λ other keeps. (each_parts _ _ _ (here.asked other keeps)).1;
         knows = here.knows;
         knows_fallen = λ other keeps. within_nowhere _;
       }
@@ -487,18 +534,18 @@ module _ (s : Subject) (y : Around) where
   pub parts_left : (by : FlowRule) (k : Facts) (is_known : Bool) (cs : List Command) (i j : ℕ) → i ≤ j → (is_known ≡ true → j ≡ i) → AreParts s by y k (drop i cs) → AreParts s by y k (drop j cs)
   parts_left by k is_known cs i j before same = left_at (AreParts s by y k) is_known cs i j before same (λ none c rest. parts_next s by y k c rest)
 
-  pub branches_left : (known : Knowledge) (is_known : Bool) (bs : List Branch) (z : p.Otherwise) (i j : ℕ) → is_known ≡ not (claims (knowledge_facts s.names.now known) Nowhere) → i ≤ j → (is_known ≡ true → j ≡ i)
-      → AreBranches s y (knowledge_facts s.names.now known) (branches_from s.script.now (drop i bs)) z → AreBranches s y (knowledge_facts s.names.now known) (branches_from s.script.now (drop j bs)) z
-  branches_left known is_known bs z i j reached before same =
+  pub branches_left : (n : ℕ) (known : Knowledge) (is_known : Bool) (bs : List Branch) (z : p.Otherwise) (i j : ℕ) → is_known ≡ not (claims (knowledge_facts s.names.now known) Nowhere) → i ≤ j → (is_known ≡ true → j ≡ i)
+      → AreBranches s y n (knowledge_facts s.names.now known) (branches_from s.script.now (drop i bs)) z → AreBranches s y n (knowledge_facts s.names.now known) (branches_from s.script.now (drop j bs)) z
+  branches_left n known is_known bs z i j reached before same =
       let k = knowledge_facts s.names.now known in
-      left_at (λ cs. AreBranches s y k (branches_from s.script.now cs) z) is_known bs i j before same
-      (λ none b rest. branches_next s y k k b rest z (λ q knows other keeps. subst (IsWithin _) (sym (unreached k is_known reached none)) (within_nowhere _)))
+      left_at (λ cs. AreBranches s y n k (branches_from s.script.now cs) z) is_known bs i j before same
+      (λ none b rest. branches_next s y n k k b rest z (λ q knows other keeps. subst (IsWithin _) (sym (unreached k is_known reached none)) (within_nowhere _)))
 
-  pub clauses_left : (k f : Facts) (is_known : Bool) (cs : List Clause) (i j : ℕ) → (is_known ≡ false → f ≡ NotReached) → i ≤ j → (is_known ≡ true → j ≡ i)
-      → AreClauses s y k f (clauses_from s.script.now (drop i cs)) → AreClauses s y k f (clauses_from s.script.now (drop j cs))
-  clauses_left k f is_known cs i j reached before same =
-      left_at (λ ds. AreClauses s y k f (clauses_from s.script.now ds)) is_known cs i j before same
-      (λ none c rest here. subst (λ g. AreClauses s y k g (clauses_from s.script.now rest)) (sym (reached none)) (clauses_idle s y k f c rest here))
+  pub clauses_left : (n : ℕ) (k f : Facts) (is_known : Bool) (cs : List Clause) (i j : ℕ) → (is_known ≡ false → f ≡ NotReached) → i ≤ j → (is_known ≡ true → j ≡ i)
+      → AreClauses s y n k f (clauses_from s.script.now (drop i cs)) → AreClauses s y n k f (clauses_from s.script.now (drop j cs))
+  clauses_left n k f is_known cs i j reached before same =
+      left_at (λ ds. AreClauses s y n k f (clauses_from s.script.now ds)) is_known cs i j before same
+      (λ none c rest here. subst (λ g. AreClauses s y n k g (clauses_from s.script.now rest)) (sym (reached none)) (clauses_idle s y n k f c rest here))
 
 module _ (s : Subject) where
   -- the list from a place on, after the items before the next one

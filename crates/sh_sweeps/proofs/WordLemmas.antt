@@ -17,12 +17,14 @@ use Rattle.sh_tree.specs.standard.program.Syntax as p
 use Rattle.sh_tree.specs.standard.program.Trees as trees
 use Rattle.sh_domain.specs.declared.certificate.Certificate as kept
 use Rattle.sh_domain.specs.declared.rule.FlowRule.TheVariants.{F11}
+use Rattle.sh_domain.specs.Admitted.{IsAdmitted, functions_in}
 use Rattle.sh_domain.specs.Entries as e
 use Rattle.sh_domain.specs.Entries.{Around, behind_redirects}
 use Rattle.sh_domain.specs.Facts.{Facts, NotReached, Nowhere, claims}
 use Rattle.sh_domain.specs.Gains.{Gains, and_gains, assigned_in, expanded_gains, named, no_gains, operands_gains, operator_gains, part_gains, redirect_gains, sure, word_gains}
 use Rattle.sh_domain.specs.declared.knowledge.Knowledge.{Knowledge}
 use Rattle.sh_domain.specs.Knowledge.{AreNumbered, knowledge_facts}
+use Rattle.sh_domain.specs.Rules.{kind_bounds}
 use Rattle.sh_domain.specs.Table.{behind_words}
 use Rattle.sh_domain.specs.Views as views
 use Rattle.sh_domain.specs.Views.{Before, Seen, at, gaining}
@@ -34,10 +36,11 @@ use Rattle.sh_rules.specs.Walks.{facts_in}
 use Rattle.sh_rules.proofs.GainLemmas.{none_gained}
 use Rattle.sh_rules.proofs.LedLemmas.{Follows}
 use Rattle.sh_drafts.specs.declared.subject.Subject.{Subject}
-use Rattle.sh_sweeps.specs.Sweeps.{AreClauses, AreElements, Gained, IsIn, IsInside, IsKind, IsList, IsPart, IsWord, Knows, setting_by}
+use Rattle.sh_sweeps.specs.Sweeps.{AreBranches, AreClauses, AreElements, AreKept, Gained, IsCase, IsIn, IsInside, IsKind, IsList, IsPart, IsWord, Knows, setting_by}
 use Rattle.sh_drafts.specs.Ready.{IsOver}
+use Rattle.sh_sweeps.proofs.BeforeLemmas.{kind_kept}
 use Rattle.sh_sweeps.proofs.KnownLemmas.{unreached}
-use Rattle.sh_sweeps.proofs.PlacedLemmas.{left_at}
+use Rattle.sh_sweeps.proofs.PlacedLemmas.{branches_placed, case_placed, inside_parts, left_at}
 use Rattle.sh_sweeps.proofs.SweepLemmas.{first_part, knows_follow, last_part}
 
 -- after a call whose result is returned
@@ -53,19 +56,36 @@ module _ (s : Subject) where
   -- What is in a command
 
   pub redirections_placed : (y : Around) (c : Command) → IsInside s y c → IsPart s (e.redirects_entered (at (Before (out-Command c).number)) (redirects_from s.script.now (out-Command c).redirects))
-  redirections_placed y c here = first_part s _ _ here
+  redirections_placed y c here = first_part s _ _ (inside_parts s y c here)
 
-  pub kind_placed : (y : Around) (k : Facts) (c : Command) → IsInside s y c
+  pub kind_placed : IsAdmitted s.script.now s.policy.now s.tree.now s.names.now → (y : Around) (k : Facts) (c : Command) → IsInside s y c
       → Knows s (behind_redirects (out-Command c).number (redirects_from s.script.now (out-Command c).redirects)) k → IsKind s y (out-Command c).number k (out-Command c).kind
-  kind_placed y k c here knows = record {
-    seen = behind_redirects (out-Command c).number (redirects_from s.script.now (out-Command c).redirects);
-    part = last_part s (e.redirects_entered (at (Before (out-Command c).number)) (redirects_from s.script.now (out-Command c).redirects)) _ here;
-    knows = knows;
+  kind_placed admitted y k c here knows = record {
+    inside = record {
+      seen = behind_redirects (out-Command c).number (redirects_from s.script.now (out-Command c).redirects);
+      part = last_part s (e.redirects_entered (at (Before (out-Command c).number)) (redirects_from s.script.now (out-Command c).redirects)) _ (inside_parts s y c here);
+      knows = knows;
+    };
+    asked = kind_kept s admitted y c here;
   }
 
   -- what a command is
   pub kind_as : (y : Around) (n : ℕ) (k : Facts) (kind v : Kind) (program : p.Kind) → kind ≡ v → trees.kind_of s.script.now v ≡ program → IsKind s y n k kind → IsIn s (λ q. e.kind_entered y n q program) k
-  kind_as y n k kind v program is same here = subst (λ m. IsIn s (λ q. e.kind_entered y n q m) k) (ap (trees.kind_of s.script.now) is ∙ same) here
+  kind_as y n k kind v program is same here = subst (λ m. IsIn s (λ q. e.kind_entered y n q m) k) (ap (trees.kind_of s.script.now) is ∙ same) here.inside
+
+  pub case_as : (y : Around) (n : ℕ) (k : Facts) (kind v : Kind) (w : p.Word) (cs : p.Clauses) → kind ≡ v → trees.kind_of s.script.now v ≡ p.Case w cs → IsKind s y n k kind → IsCase s y n k w cs
+  case_as y n k kind v w cs is same here =
+      let q : Seen = here.inside.seen in
+      let known : trees.kind_of s.script.now kind ≡ p.Case w cs = ap (trees.kind_of s.script.now) is ∙ same in
+      case_placed s y n q k w cs (subst (λ m. IsPart s (e.kind_entered y n q m)) known here.inside.part) here.inside.knows
+      (subst (λ m. AreKept s (kind_bounds (functions_in s.script.now s.tree.now) y n q m)) known here.asked)
+
+  pub cond_as : (y : Around) (n : ℕ) (k : Facts) (kind v : Kind) (bs : p.Branches) (z : p.Otherwise) → kind ≡ v → trees.kind_of s.script.now v ≡ p.Conditional bs z → IsKind s y n k kind → AreBranches s y n k bs z
+  cond_as y n k kind v bs z is same here =
+      let q : Seen = here.inside.seen in
+      let known : trees.kind_of s.script.now kind ≡ p.Conditional bs z = ap (trees.kind_of s.script.now) is ∙ same in
+      branches_placed s y n q k bs z (subst (λ m. IsPart s (e.kind_entered y n q m)) known here.inside.part) here.inside.knows
+      (subst (λ m. AreKept s (kind_bounds (functions_in s.script.now s.tree.now) y n q m)) known here.asked)
 
   pub elements_placed : (y : Around) (n : ℕ) (k : Facts) (es : p.Elements) → IsIn s (λ q. e.kind_entered y n q (p.Simple es)) k → IsIn s (λ q. e.elements_entered q (behind_words es q) es) k
   unfolding e.items_entered
@@ -80,13 +100,13 @@ module _ (s : Subject) where
   listed_placed k ws here = record { seen = here.seen; part = here.part; knows = here.knows }
 
   -- the word of a `case`, and its clauses after it
-  pub case_word : (y : Around) (k : Facts) (w : p.Word) (cs : p.Clauses) → IsIn s (λ q. e.word_entered q w ++ e.clauses_entered y (gaining (word_gains w) q) [] cs) k → IsWord s k w
-  case_word y k w cs here = record { seen = here.seen; part = first_part s (e.word_entered here.seen w) _ here.part; knows = here.knows }
+  pub case_word : (y : Around) (n : ℕ) (k : Facts) (w : p.Word) (cs : p.Clauses) → IsCase s y n k w cs → IsWord s k w
+  case_word y n k w cs here = record { seen = here.inside.seen; part = first_part s (e.word_entered here.inside.seen w) _ here.inside.part; knows = here.inside.knows }
 
-  pub clause_patterns : (y : Around) (k fallen : Facts) (c : Clause) (cs : List Clause) → AreClauses s y k fallen (clauses_from s.script.now (c ∷ cs))
+  pub clause_patterns : (y : Around) (n : ℕ) (k fallen : Facts) (c : Clause) (cs : List Clause) → AreClauses s y n k fallen (clauses_from s.script.now (c ∷ cs))
       → IsIn s (λ q. e.patterns_entered q (words_from s.script.now (out-Clause c).patterns)) k
   unfolding e.items_entered clauses_from
-  clause_patterns y k fallen c cs here = record { seen = here.seen; part = first_part s _ _ (first_part s _ _ here.part); knows = here.knows }
+  clause_patterns y n k fallen c cs here = record { seen = here.seen; part = first_part s _ _ (first_part s _ _ here.part); knows = here.knows }
 
   -- The elements of a simple command
 

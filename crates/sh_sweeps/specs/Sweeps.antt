@@ -1,14 +1,14 @@
 -- A sweep of the search over the commands of a script. Each is lowered by itself, with what is
 -- known before it by the certificate as it is there.
 -- The standard has no such thing: a certificate is lowered until it keeps all flow rules.
-use Rattle.std.specs.Prelude.{◌≡◌, ℕ, List, [], ◌∷◌, ◌++◌}
-use Rattle.sh_tree.specs.declared.tree.Command.{Command, out-Command}
+use Rattle.std.specs.Prelude.{◌≡◌, ◌-◌, ℕ, Some, true, List, [], ◌∷◌, ◌++◌}
+use Rattle.sh_tree.specs.declared.tree.Command.{Command}
 use Rattle.sh_tree.specs.declared.tree.AndOr.{AndOr}
 use Rattle.sh_tree.specs.declared.tree.Item.{Item, out-Item}
 use Rattle.sh_tree.specs.declared.tree.Kind.{Kind}
 use Rattle.sh_tree.specs.declared.tree.Link.{Link}
 use Rattle.sh_tree.specs.declared.tree.Pipe.{Pipe}
-use Rattle.sh_tree.specs.Lists.{commands_from, items_from, links_from, redirects_from}
+use Rattle.sh_tree.specs.Lists.{commands_from, items_from, links_from}
 use Rattle.sh_tree.specs.standard.program.Syntax as p
 use Rattle.sh_tree.specs.standard.program.Trees as trees
 use Rattle.sh_tree.specs.standard.program.Trees.{script_of}
@@ -16,13 +16,16 @@ use Rattle.sh_runs.specs.Calls.{table_of}
 use Rattle.sh_domain.specs.declared.certificate.Certificate as kept
 use Rattle.sh_domain.specs.declared.rule.FlowRule.{FlowRule}
 use Rattle.sh_domain.specs.declared.rule.FlowRule.TheVariants.{F2}
-use Rattle.sh_domain.specs.Entries.{Around, Entered, behind_redirects, branches_entered, clauses_entered, command_entered, commands_entered, elements_entered, item_after, items_after, items_entered, kind_entered, links_entered, list_entered, pipeline_entered, otherwise_entered, otherwise_seen, redirects_entered, script_entered, word_entered}
-use Rattle.sh_domain.specs.Facts.{Facts}
-use Rattle.sh_domain.specs.Gains.{Gains}
+use Rattle.sh_domain.specs.Entries.{Around, Entered, branches_entered, clauses_entered, command_entered, commands_entered, elements_entered, item_after, items_after, items_entered, kind_entered, links_entered, list_entered, pipeline_entered, otherwise_entered, otherwise_seen, script_entered, word_entered}
+use Rattle.sh_domain.specs.Facts.{Facts, facts}
+use Rattle.sh_domain.specs.Faults.{broken}
+use Rattle.sh_domain.specs.Gains.{Gains, word_gains}
+use Rattle.sh_domain.specs.Inclusions.{Each}
 use Rattle.sh_domain.specs.Knowledge.{knowledge_facts}
 use Rattle.sh_domain.specs.Order.{IsWithin}
+use Rattle.sh_domain.specs.Rules.{Constraint, branches_bounds, clauses_bounds, kind_bounds, leaves, otherwise_bounds}
 use Rattle.sh_domain.specs.Sheets.{Sheet}
-use Rattle.sh_domain.specs.Views.{After, Before, Both, Seen, at, gaining, in_any_case}
+use Rattle.sh_domain.specs.Views.{After, Both, Seen, gaining, in_any_case}
 use Rattle.sh_rules.specs.declared.behind.Behind as code
 use Rattle.sh_rules.specs.declared.course.Course.{Course}
 use Rattle.sh_rules.specs.Above.{SeesWithin}
@@ -30,9 +33,13 @@ use Rattle.sh_rules.specs.Behind.{Behind}
 use Rattle.sh_rules.specs.Meaning.{sees}
 use Rattle.sh_rules.specs.Settings.{Setting}
 use Rattle.sh_domain.specs.Admitted.{claims_in, functions_in}
+use Rattle.sh_drafts.specs.declared.place.Part.{Part}
+use Rattle.sh_drafts.specs.Places as place
+use Rattle.sh_drafts.specs.Places.{claim_there}
 use Rattle.sh_drafts.specs.Ready.{Keeps}
 use Rattle.sh_drafts.specs.declared.subject.Subject.{Subject}
 use Rattle.sh_drafts.specs.Starts.{start_of}
+use Rattle.sh_drafts.specs.Stated.{is_asked}
 
 module _ (s : Subject) where
   -- what a walk over the script uses
@@ -57,6 +64,16 @@ module _ (s : Subject) where
 
   abbrev pub known_behind : code.Behind → Behind
   known_behind o = record { zero = knowledge_facts s.names.now o.zero; nonzero = knowledge_facts s.names.now o.nonzero }
+
+  -- What is kept
+
+  -- each sheet that keeps what is required keeps these, as far as they are
+  abbrev pub AreKept : List Constraint → Type 0
+  AreKept ks = (other : Sheet) → Keeps s other → Each (λ b. is_asked s.stated b ≡ true → broken (start_of s) (claims_in s.script.now s.tree.now other) b ≡ []) ks
+
+  -- and claims no more than this at a part of the command of a number
+  abbrev pub ClaimsWithin : Part → ℕ → Facts → Type 0
+  ClaimsWithin part n k = (other : Sheet) → Keeps s other → IsWithin (facts (claim_there other (Some (place.at part (n - 1))))) k
 
   -- Where a sweep is
 
@@ -96,14 +113,14 @@ module _ (s : Subject) where
   AreLinks y k ls = IsAt (λ o. links_entered y o (links_from s.script.now ls)) k
 
   -- what is in the redirections of a command, and in it
-  abbrev pub IsInside : Around → Command → Type 0
-  IsInside y c =
-      IsPart
-      (redirects_entered (at (Before (out-Command c).number)) (redirects_from s.script.now (out-Command c).redirects)
-      ++ kind_entered y (out-Command c).number (behind_redirects (out-Command c).number (redirects_from s.script.now (out-Command c).redirects)) (trees.kind_of s.script.now (out-Command c).kind))
+  pub record IsInside (y : Around) (c : Command) : Type 0 where
+    pub by : FlowRule
+    pub seen : Seen
+    pub part : IsPart (command_entered by y seen (trees.command_of s.script.now c))
 
-  abbrev pub IsKind : Around → ℕ → Facts → Kind → Type 0
-  IsKind y n k kind = IsIn (λ q. kind_entered y n q (trees.kind_of s.script.now kind)) k
+  pub record IsKind (y : Around) (n : ℕ) (known : Facts) (kind : Kind) : Type 0 where
+    pub inside : IsIn (λ q. kind_entered y n q (trees.kind_of s.script.now kind)) known
+    pub asked : AreKept (kind_bounds (functions_in s.script.now s.tree.now) y n inside.seen (trees.kind_of s.script.now kind))
 
   -- what is left of the elements of a simple command: where its next word is expanded, and after
   -- all its words
@@ -130,15 +147,30 @@ module _ (s : Subject) where
   abbrev pub IsList : FlowRule → Around → Facts → p.Items → Type 0
   IsList by y k t = IsIn (λ q. items_entered by y (Both q) t) k
 
-  -- what is left of an `if`
-  abbrev pub AreBranches : Around → Facts → p.Branches → p.Otherwise → Type 0
-  AreBranches y k bs z = IsIn (λ q. branches_entered y q bs ++ otherwise_entered y (otherwise_seen q bs) z) k
+  -- so that the command of a number leaves what the list does
+  pub record IsLeft (y : Around) (n : ℕ) (by : FlowRule) (known : Facts) (t : p.Items) : Type 0 where
+    pub inside : IsList by y known t
+    pub asked : AreKept (leaves n by (items_after (Both inside.seen) t))
 
-  -- what is left of a `case`: after its word, and after the list before it
-  pub record AreClauses (y : Around) (known fallen : Facts) (cs : p.Clauses) : Type 0 where
+  -- what is left of an `if`
+  pub record AreBranches (y : Around) (n : ℕ) (known : Facts) (bs : p.Branches) (z : p.Otherwise) : Type 0 where
+    pub seen : Seen
+    pub part : IsPart (branches_entered y seen bs ++ otherwise_entered y (otherwise_seen seen bs) z)
+    pub asked : AreKept (branches_bounds n seen bs)
+    pub asked_last : AreKept (otherwise_bounds n (otherwise_seen seen bs) z)
+    pub knows : Knows seen known
+
+  -- a `case`: its word, and its clauses after it
+  pub record IsCase (y : Around) (n : ℕ) (known : Facts) (w : p.Word) (cs : p.Clauses) : Type 0 where
+    pub inside : IsIn (λ q. word_entered q w ++ clauses_entered y (gaining (word_gains w) q) [] cs) known
+    pub asked : AreKept (clauses_bounds n (gaining (word_gains w) inside.seen) [] cs)
+
+  -- what is left of it: after its word, and after the list before it
+  pub record AreClauses (y : Around) (n : ℕ) (known fallen : Facts) (cs : p.Clauses) : Type 0 where
     pub seen : Seen
     pub falls : Seen
     pub part : IsPart (clauses_entered y seen falls cs)
+    pub asked : AreKept (clauses_bounds n seen falls cs)
     pub knows : Knows seen known
     pub knows_fallen : Knows falls fallen
 

@@ -18,7 +18,7 @@ mod stated;
 pub mod texts;
 pub mod waits;
 
-pub use before::lower_before;
+pub use before::{lower_before, lower_left, lower_zero};
 pub use claims::claims_of;
 pub use gather::Gather;
 pub use lower::lower_gathered;

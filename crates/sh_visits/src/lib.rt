@@ -11,7 +11,7 @@ mod steps;
 mod texts;
 mod utilities;
 
-pub use bounds::matches_always;
+pub use bounds::{ends_case, matches_always};
 pub use jumps::jump_loop;
 pub use rules::tell_command;
 pub use texts::first_number;

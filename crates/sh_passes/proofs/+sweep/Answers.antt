@@ -2,86 +2,65 @@ mod Bodies
 mod Choices
 mod Items
 mod Links
+mod Loops
 mod Words
-use Rattle.std.proofs.Common.{rules as std_rules, length, true, ◌≡◌, ◌<◌, ◌≤◌, ◌+◌, ◌∷◌, ◌++◌, ◌∙◌, [], drop, sym, subst}
+use Rattle.std.proofs.Common.{rules as std_rules, length, true, ◌≡◌, ◌<◌, ◌≤◌, ◌+◌, ◌∷◌, drop, sym, subst}
 use Rattle.sh_tree.specs.standard.Tree.{text_of}
 use Rattle.sh_tree.specs.declared.tree.Command.{out-Command}
-use Rattle.sh_tree.specs.declared.tree.Item.{out-Item}
 use Rattle.sh_tree.specs.declared.tree.Pipe.{out-Pipe}
 use Rattle.sh_tree.specs.Lists.{elements_from, for_words_from, redirects_from}
 use Rattle.sh_tree.specs.standard.program.Syntax as p
 use Rattle.sh_tree.specs.standard.program.Trees.{script_of}
 use Rattle.sh_tree.proofs.ProgramRules as program
-use Rattle.sh_domain.specs.declared.rule.FlowRule.TheVariants.{F7, F8, F10, F11, F12, F13}
+use Rattle.sh_domain.specs.declared.rule.FlowRule.TheVariants.{F10, F11, F12, F13}
 use Rattle.sh_domain.specs.Entries as entries
 use Rattle.sh_domain.specs.Entries.{Around}
 use Rattle.sh_domain.specs.Facts.{Facts}
 use Rattle.sh_domain.specs.Knowledge.{knowledge_facts}
 use Rattle.sh_domain.specs.Table.{behind_words}
-use Rattle.sh_domain.specs.Views.{Before, Both, Head, Seen, at, without_job}
-use Rattle.sh_rules.specs.Behind.{both, in_any_case}
+use Rattle.sh_domain.specs.Views.{Before, Seen, at, without_job}
+use Rattle.sh_rules.specs.Behind.{both}
 use Rattle.sh_rules.specs.Walks as walks
 use Rattle.sh_rules.specs.Walks.{facts_in}
-use Rattle.sh_rules.proofs.LedLemmas.{turns_led}
-use Rattle.sh_sweeps.specs.Sweeps.{AreItems, AreParts, IsAndOr, IsCommand, IsIn, IsInside, IsKind, IsList, IsPart, Knows, known_behind, setting_by}
+use Rattle.sh_sweeps.specs.Sweeps.{AreItems, AreParts, IsCommand, IsIn, IsInside, IsKind, IsList, IsPart, Knows, known_behind, setting_by}
 use Rattle.sh_drafts.specs.Ready.{IsReady}
-use Rattle.sh_sweeps.proofs.PlacedLemmas.{at_index, background_placed, begun_at, body_placed, command_placed, condition_placed, definition_placed, for_placed, foreground_placed, found_below, group_placed, inside_placed, known_after, long_placed, parts_left, parts_next, short_placed, subshell_placed}
-use Rattle.sh_sweeps.proofs.SweepLemmas.{knows_follow, stands_of}
-use Rattle.sh_drafts.proofs.ReadyLemmas.{names_numbered, ready_again, swept_more}
+use Rattle.sh_sweeps.proofs.PlacedLemmas.{at_index, begun_at, command_placed, definition_placed, found_below, group_placed, inside_placed, long_placed, parts_left, parts_next, short_placed, subshell_placed}
+use Rattle.sh_drafts.proofs.ReadyLemmas.{ready_again, swept_more}
 use Rattle.sh_sweeps.proofs.WordLemmas.{elements_placed, for_words_placed, if_ok, kind_as, kind_placed, redirections_placed}
 use Rattle.sh_passes.proofs.+sweep.Goals as goal
 use Rattle.sh_passes.proofs.+sweep.Answers.Bodies as bodies
 use Rattle.sh_passes.proofs.+sweep.Answers.Items as items
 use Rattle.sh_passes.proofs.+sweep.Answers.Links as links
+use Rattle.sh_passes.proofs.+sweep.Answers.Loops as loops
 use Rattle.sh_passes.proofs.+sweep.Answers.Choices as choices
 use Rattle.sh_passes.proofs.+sweep.Answers.Words as words
 
 pub sweep::enter_item-enter_process-requires : goal.sweep::enter_item-enter_process-requires
-unfolding facts_in
-sweep::enter_item-enter_process-requires t c =
-    let s = c.args.subject.now in
-    let r = c.requires.ready in
-    let at = c.args.course.now in
-    let i = c.args.item.now in
-    let y = walks.around s.script.now c.args.around.now in
-    let any : knowledge_facts s.names.now c.meet.new.known ≡ in_any_case (known_behind s at.behind) = c.meet.ensures (setting_by s c.args.draft.now.certificate) in
-    let placed : (k : Facts) → ((q : Seen) → Knows s q (knowledge_facts s.names.now c.meet.new.known) → Knows s (without_job q) k) → IsAndOr s F11 entries.alone k (out-Item i).list =
-    λ k known. background_placed s y at i c.requires.placed.0 k c.if-item.true (λ q w. known q (subst (Knows s q) (sym any) w)) _ (names_numbered s _ _ r) r.over c.requires.placed.1 in
-    search std_rules
+sweep::enter_item-enter_process-requires = items.enter_item-enter_process-requires
 
 pub sweep::enter_item-sweep_and_or-requires : goal.sweep::enter_item-sweep_and_or-requires
-unfolding facts_in
-sweep::enter_item-sweep_and_or-requires t c =
-    let s = c.args.subject.now in
-    let r = c.requires.ready in
-    let at = c.args.course.now in
-    let i = c.args.item.now in
-    let y = walks.around s.script.now c.args.around.now in
-    let k = knowledge_facts s.names.now c.meet.new.known in
-    let any : k ≡ in_any_case (known_behind s at.behind) = c.meet.ensures (setting_by s c.args.draft.now.certificate) in
-    let placed : IsAndOr s at.by y k (out-Item i).list = foreground_placed s y at i c.requires.placed.0 k c.if-item.false any _ (names_numbered s _ _ r) r.over c.requires.placed.1 in
-    search std_rules
+sweep::enter_item-sweep_and_or-requires = items.enter_item-sweep_and_or-requires
 
 pub sweep::enter_process-sweep_and_or-requires : goal.sweep::enter_process-sweep_and_or-requires
-unfolding entries.item_seen
-sweep::enter_process-sweep_and_or-requires t c =
-    let s = c.args.subject.now in
-    let k = knowledge_facts s.names.now c.started_in-inside.result in
-    let placed : IsAndOr s F11 (walks.around s.script.now c.alone-outside.result) k c.args.list.now =
-    subst (λ z. IsAndOr s F11 z k c.args.list.now) (sym (c.alone-outside.ensures s.script.now)) (c.requires.placed k c.started_in-inside.ensures) in
-    search std_rules
+sweep::enter_process-sweep_and_or-requires = items.enter_process-sweep_and_or-requires
 
 pub sweep::sweep_and_or-sweep_pipe-requires : goal.sweep::sweep_and_or-sweep_pipe-requires
 sweep::sweep_and_or-sweep_pipe-requires = links.sweep_and_or-sweep_pipe-requires
 
-pub sweep::sweep_and_or-pipe_if-behind-requires : goal.sweep::sweep_and_or-pipe_if-behind-requires
-sweep::sweep_and_or-pipe_if-behind-requires = links.sweep_and_or-pipe_if-behind-requires
+pub sweep::sweep_and_or-sweep_joined-requires : goal.sweep::sweep_and_or-sweep_joined-requires
+sweep::sweep_and_or-sweep_joined-requires = links.sweep_and_or-sweep_joined-requires
 
-pub sweep::sweep_and_or-sweep_links-requires : goal.sweep::sweep_and_or-sweep_links-requires
-sweep::sweep_and_or-sweep_links-requires = links.sweep_and_or-sweep_links-requires
+pub links::sweep_joined-pipe_if-behind-requires : goal.links::sweep_joined-pipe_if-behind-requires
+links::sweep_joined-pipe_if-behind-requires = links.sweep_joined-pipe_if-behind-requires
 
-pub sweep::sweep_and_or-sweep_links_again-requires : goal.sweep::sweep_and_or-sweep_links_again-requires
-sweep::sweep_and_or-sweep_links_again-requires = links.sweep_and_or-sweep_links_again-requires
+pub links::sweep_joined-sweep_links-requires : goal.links::sweep_joined-sweep_links-requires
+links::sweep_joined-sweep_links-requires = links.sweep_joined-sweep_links-requires
+
+pub links::sweep_joined-sweep_links_again-requires : goal.links::sweep_joined-sweep_links_again-requires
+links::sweep_joined-sweep_links_again-requires = links.sweep_joined-sweep_links_again-requires
+
+pub links::sweep_joined-returns : goal.links::sweep_joined-returns
+links::sweep_joined-returns = links.sweep_joined-returns
 
 pub links::sweep_links_again-sweep_links-requires : goal.links::sweep_links_again-sweep_links-requires
 links::sweep_links_again-sweep_links-requires = links.sweep_links_again-sweep_links-requires
@@ -92,8 +71,8 @@ links::sweep_links_again-loop-round-preserved = links.sweep_links_again-loop-rou
 pub choices::sweep_branch-sweep_items-requires : goal.choices::sweep_branch-sweep_items-requires
 choices::sweep_branch-sweep_items-requires = choices.sweep_branch-sweep_items-requires
 
-pub choices::sweep_branch-sweep_list-requires : goal.choices::sweep_branch-sweep_list-requires
-choices::sweep_branch-sweep_list-requires = choices.sweep_branch-sweep_list-requires
+pub choices::sweep_branch-sweep_left-requires : goal.choices::sweep_branch-sweep_left-requires
+choices::sweep_branch-sweep_left-requires = choices.sweep_branch-sweep_left-requires
 
 pub choices::sweep_branch-returns-clause-swept : goal.choices::sweep_branch-returns-clause-swept
 choices::sweep_branch-returns-clause-swept = choices.sweep_branch-returns-clause-swept
@@ -125,11 +104,44 @@ choices::sweep_clauses-loop-place-preserved = choices.sweep_clauses-loop-place-p
 pub choices::sweep_body-sweep_items-requires : goal.choices::sweep_body-sweep_items-requires
 choices::sweep_body-sweep_items-requires = choices.sweep_body-sweep_items-requires
 
+pub choices::sweep_body-leave-requires-clause-ready : goal.choices::sweep_body-leave-requires-clause-ready
+choices::sweep_body-leave-requires-clause-ready = choices.sweep_body-leave-requires-clause-ready
+
+pub choices::sweep_body-leave-requires-clause-zero : goal.choices::sweep_body-leave-requires-clause-zero
+choices::sweep_body-leave-requires-clause-zero = choices.sweep_body-leave-requires-clause-zero
+
+pub choices::sweep_body-leave-requires-clause-nonzero : goal.choices::sweep_body-leave-requires-clause-nonzero
+choices::sweep_body-leave-requires-clause-nonzero = choices.sweep_body-leave-requires-clause-nonzero
+
+pub choices::sweep_body-returns-clause-swept : goal.choices::sweep_body-returns-clause-swept
+choices::sweep_body-returns-clause-swept = choices.sweep_body-returns-clause-swept
+
 pub choices::sweep_body-returns-clause-passed : goal.choices::sweep_body-returns-clause-passed
 choices::sweep_body-returns-clause-passed = choices.sweep_body-returns-clause-passed
 
-pub choices::sweep_cond-sweep_list-requires : goal.choices::sweep_cond-sweep_list-requires
-choices::sweep_cond-sweep_list-requires = choices.sweep_cond-sweep_list-requires
+pub choices::sweep_cond-sweep_left-requires : goal.choices::sweep_cond-sweep_left-requires
+choices::sweep_cond-sweep_left-requires = choices.sweep_cond-sweep_left-requires
+
+pub choices::sweep_cond-leave_unmatched-requires-clause-ready : goal.choices::sweep_cond-leave_unmatched-requires-clause-ready
+choices::sweep_cond-leave_unmatched-requires-clause-ready = choices.sweep_cond-leave_unmatched-requires-clause-ready
+
+pub choices::sweep_cond-leave_unmatched-requires-clause-zero : goal.choices::sweep_cond-leave_unmatched-requires-clause-zero
+choices::sweep_cond-leave_unmatched-requires-clause-zero = choices.sweep_cond-leave_unmatched-requires-clause-zero
+
+pub choices::sweep_left-sweep_items-requires : goal.choices::sweep_left-sweep_items-requires
+choices::sweep_left-sweep_items-requires = choices.sweep_left-sweep_items-requires
+
+pub choices::sweep_left-leave-requires-clause-ready : goal.choices::sweep_left-leave-requires-clause-ready
+choices::sweep_left-leave-requires-clause-ready = choices.sweep_left-leave-requires-clause-ready
+
+pub choices::sweep_left-leave-requires-clause-zero : goal.choices::sweep_left-leave-requires-clause-zero
+choices::sweep_left-leave-requires-clause-zero = choices.sweep_left-leave-requires-clause-zero
+
+pub choices::sweep_left-leave-requires-clause-nonzero : goal.choices::sweep_left-leave-requires-clause-nonzero
+choices::sweep_left-leave-requires-clause-nonzero = choices.sweep_left-leave-requires-clause-nonzero
+
+pub choices::sweep_left-returns : goal.choices::sweep_left-returns
+choices::sweep_left-returns = choices.sweep_left-returns
 
 pub sweep::sweep_definition-sweep_command-requires : goal.sweep::sweep_definition-sweep_command-requires
 sweep::sweep_definition-sweep_command-requires t c =
@@ -142,16 +154,7 @@ sweep::sweep_definition-sweep_command-requires t c =
     search std_rules
 
 pub sweep::sweep_for-sweep_list-requires : goal.sweep::sweep_for-sweep_list-requires
-sweep::sweep_for-sweep_list-requires t c =
-    let s = c.args.subject.now in
-    let r = c.requires.ready in
-    let y = walks.around s.script.now c.args.around.now in
-    let w = c.requires.placed in
-    let k = knowledge_facts s.names.now c.turn_of-turn.result in
-    let placed : IsList s F8 (walks.around s.script.now c.in_loop-inner.result) k (script_of s.script.now c.args.body.now) =
-    subst (λ z. IsList s F8 z k (script_of s.script.now c.args.body.now)) (sym (c.in_loop-inner.ensures s.script.now))
-    (for_placed s y c.args.number w.0 k (text_of s.script.now c.args.name) w.1 (script_of s.script.now c.args.body.now) w.2 c.turn_of-turn.ensures) in
-    search std_rules
+sweep::sweep_for-sweep_list-requires = loops.sweep_for-sweep_list-requires
 
 pub sweep::sweep_list-sweep_items-requires : goal.sweep::sweep_list-sweep_items-requires
 unfolding facts_in
@@ -166,42 +169,10 @@ sweep::sweep_list-sweep_items-requires t c =
     search std_rules
 
 pub sweep::sweep_loop-sweep_items-requires : goal.sweep::sweep_loop-sweep_items-requires
-unfolding facts_in
-sweep::sweep_loop-sweep_items-requires t c =
-    let s = c.args.subject.now in
-    let r = c.requires.ready in
-    let y = walks.around s.script.now c.args.around.now in
-    let k = knowledge_facts s.names.now c.head_of-head.result in
-    let begun : known_behind s c.begun-course.result.behind ≡ both k = c.begun-course.ensures.behind (setting_by s c.args.draft.now.certificate) in
-    let w = c.requires.placed in
-    let inner : walks.around s.script.now c.in_loop-inner.result ≡ entries.in_loop c.args.number y = c.in_loop-inner.ensures s.script.now in
-    let placed : AreItems s c.begun-course.result.by (walks.around s.script.now c.in_loop-inner.result) (known_behind s c.begun-course.result.behind) c.as_slice.result.now =
-    subst (λ z. AreItems s c.begun-course.result.by z (known_behind s c.begun-course.result.behind) c.as_slice.result.now) (sym inner)
-    (begun_at s (entries.in_loop c.args.number y) k c.begun-course.result F7 c.args.condition.now c.as_slice.result.now c.begun-course.ensures.by begun c.as_slice.ensures
-    (condition_placed s y c.args.number w.0 k c.args.kind (script_of s.script.now c.args.condition.now) (script_of s.script.now c.args.body.now) w.1 c.head_of-head.ensures)) in
-    search std_rules
+sweep::sweep_loop-sweep_items-requires = loops.sweep_loop-sweep_items-requires
 
 pub sweep::sweep_loop-sweep_list-requires : goal.sweep::sweep_loop-sweep_list-requires
-unfolding facts_in
-sweep::sweep_loop-sweep_list-requires t c =
-    let s = c.args.subject.now in
-    let r = c.requires.ready in
-    let y = walks.around s.script.now c.args.around.now in
-    let k = knowledge_facts s.names.now c.head_of-head.result in
-    let begun : known_behind s c.begun-course.result.behind ≡ both k = c.begun-course.ensures.behind (setting_by s c.args.draft.now.certificate) in
-    let w = c.requires.placed in
-    let inner : walks.around s.script.now c.in_loop-inner.result ≡ entries.in_loop c.args.number y = c.in_loop-inner.ensures s.script.now in
-    let ready : IsReady s c.sweep_items.new.draft.certificate c.sweep_items.new.draft.probe.count = ready_again s _ _ _ _ r c.in_ok-sweep_items.ensures.swept in
-    let after = known_after s k c.begun-course.result c.sweep_items.new.course c.args.condition.now c.as_slice.result.now begun c.as_slice.ensures c.in_ok-sweep_items.ensures.behind in
-    let o = entries.items_after (Both (at (Head c.args.number))) (script_of s.script.now c.args.condition.now) in
-    let turn = knowledge_facts s.names.now c.at_turn.result.now in
-    let known : Knows s (entries.turns c.args.kind o) turn =
-    subst (Knows s (entries.turns c.args.kind o)) (sym (c.at_turn.ensures (setting_by s c.args.draft.now.certificate)))
-    (turns_led (setting_by s c.args.draft.now.certificate) (Knows s) (knows_follow s _ (names_numbered s _ _ r) r.over) c.args.kind o (known_behind s c.sweep_items.new.course.behind) (stands_of s o _ (after (at (Head c.args.number)) c.head_of-head.ensures))) in
-    let placed : IsList s F7 (walks.around s.script.now c.in_loop-inner.result) turn (script_of s.script.now c.args.body.now) =
-    subst (λ z. IsList s F7 z turn (script_of s.script.now c.args.body.now)) (sym inner)
-    (body_placed s y c.args.number w.0 turn c.args.kind (script_of s.script.now c.args.condition.now) (script_of s.script.now c.args.body.now) w.1 known) in
-    search std_rules
+sweep::sweep_loop-sweep_list-requires = loops.sweep_loop-sweep_list-requires
 
 pub sweep::sweep_and_or-returns : goal.sweep::sweep_and_or-returns
 sweep::sweep_and_or-returns = links.sweep_and_or-returns
@@ -391,7 +362,7 @@ sweep::sweep_inside-sweep_kind-requires t c =
     let m = c.args.command.now in
     let k = knowledge_facts s.names.now c.inside_if-inside.result in
     let ready : IsReady s c.sweep_redirections.new.draft.certificate c.sweep_redirections.new.draft.probe.count = ready_again s _ _ _ _ r c.in_ok-sweep_redirections.ensures.swept in
-    let placed : IsKind s y (out-Command m).number k (out-Command m).kind = kind_placed s y k m c.requires.placed c.inside_if-inside.ensures in
+    let placed : IsKind s y (out-Command m).number k (out-Command m).kind = kind_placed s r.admitted y k m c.requires.placed c.inside_if-inside.ensures in
     search std_rules
 
 pub choices::sweep_case-pass_word-requires : goal.choices::sweep_case-pass_word-requires
@@ -643,6 +614,9 @@ choices::sweep_clause-returns-clause-swept = choices.sweep_clause-returns-clause
 pub choices::sweep_cond-returns-in-Some : goal.choices::sweep_cond-returns-in-Some
 choices::sweep_cond-returns-in-Some = choices.sweep_cond-returns-in-Some
 
+pub choices::sweep_cond-returns-in-None : goal.choices::sweep_cond-returns-in-None
+choices::sweep_cond-returns-in-None = choices.sweep_cond-returns-in-None
+
 pub sweep::sweep_items-pass_idle-next-requires : goal.sweep::sweep_items-pass_idle-next-requires
 sweep::sweep_items-pass_idle-next-requires = items.sweep_items-pass_idle-next-requires
 
@@ -692,8 +666,8 @@ sweep::sweep_compound-sweep_again-requires = bodies.sweep_compound-sweep_again-r
 pub sweep::sweep_compound-lower_behind-requires-clause-ready : goal.sweep::sweep_compound-lower_behind-requires-clause-ready
 sweep::sweep_compound-lower_behind-requires-clause-ready = bodies.sweep_compound-lower_behind-requires-clause-ready
 
-pub sweep::sweep_compound-returns-then-draft-before : goal.sweep::sweep_compound-returns-then-draft-before
-sweep::sweep_compound-returns-then-draft-before = bodies.sweep_compound-returns-then-draft-before
+pub sweep::sweep_compound-returns-then-has_branches : goal.sweep::sweep_compound-returns-then-has_branches
+sweep::sweep_compound-returns-then-has_branches = bodies.sweep_compound-returns-then-has_branches
 
 pub sweep::sweep_compound-returns : goal.sweep::sweep_compound-returns
 sweep::sweep_compound-returns = bodies.sweep_compound-returns

@@ -47,7 +47,7 @@ decreases-sweep::sweep_parts-loop-place l = length l.parts - l.place
 abbrev pub invariant-choices::sweep_branches-loop-place : goal.invariant-choices::sweep_branches-loop-place
 invariant-choices::sweep_branches-loop-place l = record {
   swept : IsSwept l.subject l.initial.draft.certificate l.draft.certificate l.draft.probe.count;
-  placed : AreBranches l.subject (walks.around l.subject.script.now l.around) (knowledge_facts l.subject.names.now l.known)
+  placed : AreBranches l.subject (walks.around l.subject.script.now l.around) l.number (knowledge_facts l.subject.names.now l.known)
       (branches_from l.subject.script.now (drop l.place l.branches)) (otherwise_from l.subject.script.now l.otherwise);
 }
 
@@ -57,7 +57,7 @@ decreases-choices::sweep_branches-loop-place l = length l.branches - l.place
 abbrev pub invariant-choices::sweep_clauses-loop-place : goal.invariant-choices::sweep_clauses-loop-place
 invariant-choices::sweep_clauses-loop-place l = record {
   swept : IsSwept l.subject l.initial.draft.certificate l.draft.certificate l.draft.probe.count;
-  placed : AreClauses l.subject (walks.around l.subject.script.now l.around) (knowledge_facts l.subject.names.now l.behind) (knowledge_facts l.subject.names.now l.fallen)
+  placed : AreClauses l.subject (walks.around l.subject.script.now l.around) l.number (knowledge_facts l.subject.names.now l.behind) (knowledge_facts l.subject.names.now l.fallen)
       (clauses_from l.subject.script.now (drop l.place l.clauses));
 }
 
@@ -216,6 +216,9 @@ decreases-words::sweep_substitution l = l.levels * 64 + 22
 abbrev pub decreases-choices::sweep_body : goal.decreases-choices::sweep_body
 decreases-choices::sweep_body l = l.levels * 64 + 22
 
+abbrev pub decreases-choices::sweep_left : goal.decreases-choices::sweep_left
+decreases-choices::sweep_left l = l.levels * 64 + 20
+
 abbrev pub decreases-choices::sweep_branch : goal.decreases-choices::sweep_branch
 decreases-choices::sweep_branch l = l.levels * 64 + 21
 
@@ -235,10 +238,10 @@ abbrev pub decreases-words::sweep_redirections : goal.decreases-words::sweep_red
 decreases-words::sweep_redirections l = l.levels * 64 + 14
 
 abbrev pub decreases-sweep::enter_item : goal.decreases-sweep::enter_item
-decreases-sweep::enter_item l = l.levels * 64 + 14
+decreases-sweep::enter_item l = l.levels * 64 + 15
 
 abbrev pub decreases-sweep::enter_process : goal.decreases-sweep::enter_process
-decreases-sweep::enter_process l = l.levels * 64 + 13
+decreases-sweep::enter_process l = l.levels * 64 + 14
 
 abbrev pub decreases-sweep::sweep_processes : goal.decreases-sweep::sweep_processes
 decreases-sweep::sweep_processes l = l.levels * 64 + 5
@@ -256,7 +259,7 @@ abbrev pub decreases-words::sweep_for_words : goal.decreases-words::sweep_for_wo
 decreases-words::sweep_for_words l = l.levels * 64 + 12
 
 abbrev pub decreases-sweep::sweep_and_or : goal.decreases-sweep::sweep_and_or
-decreases-sweep::sweep_and_or l = l.levels * 64 + 12
+decreases-sweep::sweep_and_or l = l.levels * 64 + 13
 
 abbrev pub decreases-words::pass_operator : goal.decreases-words::pass_operator
 decreases-words::pass_operator l = l.levels * 64 + 10
@@ -266,6 +269,9 @@ decreases-words::pass_target l = l.levels * 64 + 10
 
 abbrev pub decreases-words::sweep_words : goal.decreases-words::sweep_words
 decreases-words::sweep_words l = l.levels * 64 + 10
+
+abbrev pub decreases-links::sweep_joined : goal.decreases-links::sweep_joined
+decreases-links::sweep_joined l = l.levels * 64 + 12
 
 abbrev pub decreases-links::sweep_links : goal.decreases-links::sweep_links
 decreases-links::sweep_links l = l.levels * 64 + 10

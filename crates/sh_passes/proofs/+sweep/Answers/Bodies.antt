@@ -178,8 +178,8 @@ sweep_compound-lower_behind-requires-clause-ready t c =
     let s = c.args.subject.now in
     ready_again s _ _ _ _ (ready_again s _ _ _ _ c.requires.ready c.in_ok-sweep_rounds.ensures.swept) c.in_ok-sweep_again.ensures.swept
 
-pub sweep_compound-returns-then-draft-before : goal.sweep::sweep_compound-returns-then-draft-before
-sweep_compound-returns-then-draft-before t c =
+pub sweep_compound-returns-then-has_branches : goal.sweep::sweep_compound-returns-then-has_branches
+sweep_compound-returns-then-has_branches t c =
     let s = c.args.subject.now in
     record { swept = swept_more s _ _ _ _ _ c.in_ok-sweep_rounds.ensures.swept c.in_ok-sweep_again.ensures.swept }
 

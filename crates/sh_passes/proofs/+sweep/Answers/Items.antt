@@ -1,13 +1,55 @@
-use Rattle.std.proofs.Common.{rules as std_rules, ◌+◌, ◌∷◌, List, drop, subst}
+use Rattle.std.proofs.Common.{rules as std_rules, ◌≡◌, ◌+◌, ◌∷◌, List, drop, subst, sym}
 use Rattle.std.proofs.lemmas.List.{drop_all}
-use Rattle.sh_tree.specs.declared.tree.Item.{Item}
+use Rattle.sh_tree.specs.declared.tree.Item.{Item, out-Item}
+use Rattle.sh_domain.specs.declared.rule.FlowRule.TheVariants.{F11}
+use Rattle.sh_domain.specs.Entries as entries
 use Rattle.sh_domain.specs.Entries.{Around}
+use Rattle.sh_domain.specs.Facts.{Facts}
+use Rattle.sh_domain.specs.Knowledge.{knowledge_facts}
+use Rattle.sh_domain.specs.Views.{Seen, without_job}
+use Rattle.sh_rules.specs.Behind.{in_any_case}
 use Rattle.sh_rules.specs.Walks as walks
-use Rattle.sh_sweeps.specs.Sweeps.{AreItems, known_behind}
+use Rattle.sh_rules.specs.Walks.{facts_in}
+use Rattle.sh_sweeps.specs.Sweeps.{AreItems, IsAndOr, Knows, known_behind, setting_by}
 use Rattle.sh_drafts.specs.Ready.{IsReady}
-use Rattle.sh_sweeps.proofs.PlacedLemmas.{goes_last, goes_next, GoesOn, items_next, next_goes, next_item}
-use Rattle.sh_drafts.proofs.ReadyLemmas.{ready_again, swept_more}
+use Rattle.sh_sweeps.proofs.PlacedLemmas.{background_placed, foreground_placed, goes_last, goes_next, GoesOn, items_next, next_goes, next_item}
+use Rattle.sh_drafts.proofs.ReadyLemmas.{names_numbered, ready_again, swept_more}
 use Rattle.sh_passes.proofs.+sweep.Goals as goal
+
+pub enter_item-enter_process-requires : goal.sweep::enter_item-enter_process-requires
+unfolding facts_in
+enter_item-enter_process-requires t c =
+    let s = c.args.subject.now in
+    let r = c.requires.ready in
+    let at = c.args.course.now in
+    let i = c.args.item.now in
+    let y = walks.around s.script.now c.args.around.now in
+    let any : knowledge_facts s.names.now c.meet.new.known ≡ in_any_case (known_behind s at.behind) = c.meet.ensures (setting_by s c.args.draft.now.certificate) in
+    let placed : (k : Facts) → ((q : Seen) → Knows s q (knowledge_facts s.names.now c.meet.new.known) → Knows s (without_job q) k) → IsAndOr s F11 entries.alone k (out-Item i).list =
+    λ k known. background_placed s y at i c.requires.placed.0 k c.if-item.true (λ q w. known q (subst (Knows s q) (sym any) w)) _ (names_numbered s _ _ r) r.over c.requires.placed.1 in
+    search std_rules
+
+pub enter_item-sweep_and_or-requires : goal.sweep::enter_item-sweep_and_or-requires
+unfolding facts_in
+enter_item-sweep_and_or-requires t c =
+    let s = c.args.subject.now in
+    let r = c.requires.ready in
+    let at = c.args.course.now in
+    let i = c.args.item.now in
+    let y = walks.around s.script.now c.args.around.now in
+    let k = knowledge_facts s.names.now c.meet.new.known in
+    let any : k ≡ in_any_case (known_behind s at.behind) = c.meet.ensures (setting_by s c.args.draft.now.certificate) in
+    let placed : IsAndOr s at.by y k (out-Item i).list = foreground_placed s y at i c.requires.placed.0 k c.if-item.false any _ (names_numbered s _ _ r) r.over c.requires.placed.1 in
+    search std_rules
+
+pub enter_process-sweep_and_or-requires : goal.sweep::enter_process-sweep_and_or-requires
+unfolding entries.item_seen
+enter_process-sweep_and_or-requires t c =
+    let s = c.args.subject.now in
+    let k = knowledge_facts s.names.now c.started_in-inside.result in
+    let placed : IsAndOr s F11 (walks.around s.script.now c.alone-outside.result) k c.args.list.now =
+    subst (λ z. IsAndOr s F11 z k c.args.list.now) (sym (c.alone-outside.ensures s.script.now)) (c.requires.placed k c.started_in-inside.ensures) in
+    search std_rules
 
 pub sweep_items-pass_idle-next-requires : goal.sweep::sweep_items-pass_idle-next-requires
 sweep_items-pass_idle-next-requires t c =

@@ -2,12 +2,13 @@ use Rattle.std.proofs.Common.{rules as std_rules, ◌+◌, ◌∷◌, List, drop
 use Rattle.sh_tree.specs.declared.tree.AndOr.{out-AndOr}
 use Rattle.sh_tree.specs.declared.tree.Link.{Link}
 use Rattle.sh_tree.specs.declared.tree.Pipe.{Pipe}
+use Rattle.sh_domain.specs.declared.rule.FlowRule.{FlowRule}
 use Rattle.sh_domain.specs.declared.rule.FlowRule.TheVariants.{F3}
 use Rattle.sh_domain.specs.Knowledge.{knowledge_facts}
 use Rattle.sh_rules.specs.Behind.{Behind}
 use Rattle.sh_rules.specs.Walks as walks
 use Rattle.sh_rules.specs.Walks.{facts_in}
-use Rattle.sh_sweeps.specs.Sweeps.{AreLinks, IsPipe, known_behind, setting_by}
+use Rattle.sh_sweeps.specs.Sweeps.{AreLinks, IsAndOr, IsPipe, known_behind, setting_by}
 use Rattle.sh_drafts.specs.Ready.{IsReady}
 use Rattle.sh_sweeps.proofs.PlacedLemmas.{at_index, found_below, link_placed, links_next, links_placed, pipe_placed}
 use Rattle.sh_drafts.proofs.ReadyLemmas.{names_numbered, ready_again, swept_more}
@@ -80,35 +81,41 @@ sweep_and_or-sweep_pipe-requires t c =
     let placed : IsPipe s c.args.by y (knowledge_facts s.names.now c.args.known.now) (out-AndOr c.args.list.now).first = pipe_placed s c.args.by y (knowledge_facts s.names.now c.args.known.now) c.args.list.now c.requires.placed in
     search std_rules
 
-pub sweep_and_or-pipe_if-behind-requires : goal.sweep::sweep_and_or-pipe_if-behind-requires
-sweep_and_or-pipe_if-behind-requires t c =
+pub sweep_and_or-sweep_joined-requires : goal.sweep::sweep_and_or-sweep_joined-requires
+sweep_and_or-sweep_joined-requires t c =
     let s = c.args.subject.now in
     let ready : IsReady s c.sweep_pipe.new.draft.certificate c.sweep_pipe.new.draft.probe.count = ready_again s _ _ _ _ c.requires.ready c.in_ok-sweep_pipe.ensures.swept in
-    search std_rules
-
-pub sweep_and_or-sweep_links-requires : goal.sweep::sweep_and_or-sweep_links-requires
-sweep_and_or-sweep_links-requires t c =
-    let s = c.args.subject.now in
-    let r = c.requires.ready in
-    let y = walks.around s.script.now c.args.around.now in
-    let ready : IsReady s c.sweep_pipe.new.draft.certificate c.sweep_pipe.new.draft.probe.count = ready_again s _ _ _ _ r c.in_ok-sweep_pipe.ensures.swept in
-    let placed : AreLinks s y (known_behind s c.pipe_if-behind.result) c.as_slice-links.result.now =
-    subst (AreLinks s y (known_behind s c.pipe_if-behind.result)) (sym c.as_slice-links.ensures)
-    (links_placed s c.args.by y (knowledge_facts s.names.now c.args.known.now) c.args.list.now (known_behind s c.pipe_if-behind.result) c.pipe_if-behind.ensures c.requires.placed) in
-    search std_rules
-
-pub sweep_and_or-sweep_links_again-requires : goal.sweep::sweep_and_or-sweep_links_again-requires
-sweep_and_or-sweep_links_again-requires t c =
-    let s = c.args.subject.now in
-    let y = walks.around s.script.now c.args.around.now in
-    let ready : IsReady s c.sweep_links.new.draft.certificate c.sweep_links.new.draft.probe.count = ready_again s _ _ _ _ (ready_again s _ _ _ _ c.requires.ready c.in_ok-sweep_pipe.ensures.swept) c.in_ok-sweep_links.ensures.swept in
-    let here : AreLinks s y (known_behind s c.pipe_if-behind.result) c.as_slice-links.result.now =
-    subst (AreLinks s y (known_behind s c.pipe_if-behind.result)) (sym c.as_slice-links.ensures)
-    (links_placed s c.args.by y (knowledge_facts s.names.now c.args.known.now) c.args.list.now (known_behind s c.pipe_if-behind.result) c.pipe_if-behind.ensures c.requires.placed) in
-    let placed : (k : Behind) × AreLinks s y k c.as_slice-links.result.now = (_, here) in
+    let placed : (by : FlowRule) × IsAndOr s by (walks.around s.script.now c.args.around.now) (knowledge_facts s.names.now c.args.known.now) c.args.list.now = (c.args.by, c.requires.placed) in
     search std_rules
 
 pub sweep_and_or-returns : goal.sweep::sweep_and_or-returns
 sweep_and_or-returns t c =
+    record { swept = if_ok c.sweep_joined.result _ _ (λ u h. swept_more c.args.subject.now _ _ _ _ _ c.in_ok-sweep_pipe.ensures.swept h) c.sweep_joined.ensures.swept }
+
+pub sweep_joined-pipe_if-behind-requires : goal.links::sweep_joined-pipe_if-behind-requires
+sweep_joined-pipe_if-behind-requires t c = (_, c.requires.ready)
+
+pub sweep_joined-sweep_links-requires : goal.links::sweep_joined-sweep_links-requires
+sweep_joined-sweep_links-requires t c =
     let s = c.args.subject.now in
-    record { swept = if_ok c.sweep_links_again.result _ _ (λ u h. swept_more s _ _ _ _ _ (swept_more s _ _ _ _ _ c.in_ok-sweep_pipe.ensures.swept c.in_ok-sweep_links.ensures.swept) h) c.sweep_links_again.ensures.swept }
+    let ready : IsReady s c.args.draft.now.certificate c.args.draft.now.probe.count = c.requires.ready in
+    let y = walks.around s.script.now c.args.around.now in
+    let placed : AreLinks s y (known_behind s c.pipe_if-behind.result) c.as_slice-links.result.now =
+    subst (AreLinks s y (known_behind s c.pipe_if-behind.result)) (sym c.as_slice-links.ensures)
+    (links_placed s c.requires.placed.0 y (knowledge_facts s.names.now c.args.known.now) c.args.list.now (known_behind s c.pipe_if-behind.result) c.pipe_if-behind.ensures c.requires.placed.1) in
+    search std_rules
+
+pub sweep_joined-sweep_links_again-requires : goal.links::sweep_joined-sweep_links_again-requires
+sweep_joined-sweep_links_again-requires t c =
+    let s = c.args.subject.now in
+    let y = walks.around s.script.now c.args.around.now in
+    let ready : IsReady s c.sweep_links.new.draft.certificate c.sweep_links.new.draft.probe.count = ready_again s _ _ _ _ c.requires.ready c.in_ok-sweep_links.ensures.swept in
+    let here : AreLinks s y (known_behind s c.pipe_if-behind.result) c.as_slice-links.result.now =
+    subst (AreLinks s y (known_behind s c.pipe_if-behind.result)) (sym c.as_slice-links.ensures)
+    (links_placed s c.requires.placed.0 y (knowledge_facts s.names.now c.args.known.now) c.args.list.now (known_behind s c.pipe_if-behind.result) c.pipe_if-behind.ensures c.requires.placed.1) in
+    let placed : (k : Behind) × AreLinks s y k c.as_slice-links.result.now = (_, here) in
+    search std_rules
+
+pub sweep_joined-returns : goal.links::sweep_joined-returns
+sweep_joined-returns t c =
+    record { swept = if_ok c.sweep_links_again.result _ _ (λ u h. swept_more c.args.subject.now _ _ _ _ _ c.in_ok-sweep_links.ensures.swept h) c.sweep_links_again.ensures.swept }
