@@ -45,14 +45,26 @@ def shift_after(size):
     return straight(size - 30) + "while :; do shift; done\n"
 
 
-def shift_in_links(piece):
+def shift_in_links(piece, start="while :; do ", end="b; done\n"):
     """Each link leaves fewer parameters than the one before it, and all leave many."""
 
     def of(size):
-        count = max(2, (size - 20) // len(piece % 60000))
-        return "while :; do " + "".join(piece % (65_000 - 54_000 * n // count) for n in range(count)) + "b; done\n"
+        count = max(2, (size - len(start) - len(end)) // len(piece % 60000))
+        return start + "".join(piece % (65_000 - 54_000 * n // count) for n in range(count)) + end
 
     return of
+
+
+def shift_in_clauses(piece):
+    """The same in clauses that fall through."""
+    return shift_in_links(piece, "while :; do case x in ", "b) c;; esac; done\n")
+
+
+def shift_both_ways(size):
+    """Functions that call the next and the one before, each with fewer parameters than the one before it."""
+    last = count_of(size, 'f1000() { f1001 "$@"; }\nf1000() { f1000 "$@"; }\n( shift 1000; f1000 "$@" )') - 1
+    lines = [f'f{number}() {{ f{min(number + 1, last)} "$@"; }}\nf{number}() {{ f{max(number - 1, 0)} "$@"; }}' for number in range(last + 1)]
+    return text_of(lines + [f'( shift {number + 1}; f{number} "$@" )' for number in range(last + 1)])
 
 
 def shift_words(size):
@@ -359,6 +371,22 @@ def reached_back(opens, part, filler, closes):
         text = text_of(lines) + opens + "".join(part.replace("C", commands) for commands in chain)
         room = min(size - len(text) - len(closes), (MOST_COMMANDS - 10 * count) * len(filler) // 2)
         return text + filler * max(0, room // len(filler)) + closes
+
+    return of
+
+
+def reached_by_others(opens, part, filler, closes):
+    """Parts of a function that are reached from the last to the first, one in each pass over what is outside. Each part loses a name. N stands for its number. Others are the rest."""
+
+    def of(size):
+        count = count_of(size // 2, f"g1000() {{ exit; }}\nf1000() {{ g1000; }}\nv1000=\n{part}( f1000; unset -f g1000; f1000 ) | b\n1000", MOST_NAMES // 3)
+        lines = [f"g{n}() {{ exit; }}\nf{n}() {{ g{n}; }}\nv{n}=" for n in range(count + 1)]
+        chain = [f"( f{n + 1}; unset -f g{n}; f{n} ) | b\n" for n in range(count)] + [f"( unset -f g{count}; f{count} ) | b\n"]
+        parts = "".join(part.replace("N", str(n)) for n in range(count + 1))
+        ends = closes + "".join(chain)
+        text = text_of(lines) + opens + parts
+        room = min(size - len(text) - len(ends), (MOST_COMMANDS - 14 * count) * len(filler) // 2)
+        return text + filler * max(0, room // len(filler)) + ends
 
     return of
 
@@ -683,6 +711,9 @@ ROUND = {
 FAMILIES = {
     "shift in links": (shift_in_links('{ a && { shift; : "${%d?}"; }; } || '), ALL_PARAMETERS),
     "shift in ifs": (shift_in_links('if a; then shift; : "${%d?}"; else false; fi || '), ALL_PARAMETERS),
+    "shift in clauses": (shift_in_clauses('a) a && { shift; : "${%d?}"; } ;& '), ALL_PARAMETERS),
+    "shift last in clauses": (shift_in_clauses('a) a && { : "${%d?}"; shift; } ;& '), ALL_PARAMETERS),
+    "shift both ways": (shift_both_ways, ALL_PARAMETERS),
     "shift after": (shift_after, ALL_PARAMETERS),
     "shift words": (shift_words, ()),
     "shift around": (shift_around, ALL_PARAMETERS),
@@ -753,6 +784,8 @@ FAMILIES = {
     "reached back in links in a function": (reached_back("h() { a", " || ( C )", "||a", "; }\nh\n"), ()),
     "reached back beside documents": (lambda size: reached_back("a " + "<<E " * (size // 18), '>"$(C)" ', ">a ", "\n" + "E\n" * (size // 18))(size), ()),
     "reached back in definitions": (reached_back("a", " || ( C )", "||f() { b; }", "\n"), ()),
+    "reached by others in case": (reached_by_others("h() { case x in\n", "a) fN; unset vN;;\n", "a) b;;\n", "esac; }\nh | a\n"), ()),
+    "reached by others in if": (reached_by_others("h() { if a; then b\n", "elif a; then fN; unset vN\n", "elif a; then b\n", "fi; }\nh | a\n"), ()),
     "long body of words": (long_body("echo ", "a "), ()),
     "long body of a word": (long_body("echo $(b)", '"a"'), ()),
     "long body of operands": (long_body("unset ", "z "), ()),
