@@ -5,6 +5,7 @@
 mod assured;
 pub mod begun;
 mod draft;
+pub mod extent;
 mod first;
 pub mod inner;
 pub mod kept;
@@ -30,5 +31,8 @@ pub use sight::Sight;
 pub use spot::{Spot, fitting, of_command};
 pub use subject::Subject;
 pub use target::Target;
-pub use wakes::{enter_function, look, look_again, note_lowered, note_place};
+pub use wakes::{
+    begin_outside, enter_function, holds_back, look, look_again, note_lowered, note_place,
+    wake_late,
+};
 pub use writable::Writable;

@@ -2,6 +2,7 @@
 ghost use Rattle.std.specs.Prelude.{◌≡◌};
 
 use crate::draft::{Draft, tires_after};
+use crate::extent::extent_of;
 use crate::kept::{drops_of, facts_at};
 use crate::place::{Part, Place};
 use crate::subject::Subject;
@@ -10,6 +11,12 @@ use sh_domain::{Drops, Facts, RowId};
 use sh_worklist::{Flags, Look, Reason, Waiting};
 use std::alloc::AllocError;
 
+// Of what is late, so few callers of a function wait before the others.
+const FEW_CALLERS: usize = 4;
+
+// So does a body with so few commands.
+const FEW_COMMANDS: u32 = 64;
+
 // Adds an index to a set. Reports whether it was not there.
 fn is_news(indices: &mut Flags, index: u16) -> bool {
     let is_news = !indices.has(u32::from(index));
@@ -17,26 +24,139 @@ fn is_news(indices: &mut Flags, index: u16) -> bool {
     is_news
 }
 
-// Has the bodies of the function of an index wait, unless they all do.
-fn wake_bodies(subject: &Subject<'_>, waiting: &mut Waiting, index: u16) -> Result<(), AllocError> {
+// The numbers of the commands that define the function of an index.
+fn definitions_of<'a>(subject: &Subject<'a>, index: u32) -> &'a [u32] {
     if index as usize >= subject.table.functions().len() {
-        return Ok(());
+        return &[];
     }
+    subject.table.definitions(index + 1)
+}
+
+// Has the bodies of the function of an index wait, unless they all do, or are late.
+fn wake_bodies(subject: &Subject<'_>, waiting: &mut Waiting, index: u16) -> Result<(), AllocError> {
     waiting.note_fall(Reason::Entered);
     if !is_news(&mut waiting.entered, index) {
         return Ok(());
     }
-    let definitions = subject.table.definitions(index as u32 + 1);
-    waiting.wait_bodies(definitions)
+    if waiting.late_entries.keeps(u32::from(index)) {
+        return Ok(());
+    }
+    waiting.wait_bodies(definitions_of(subject, u32::from(index)))
 }
 
-// Has the callers of the function of an index wait, unless they all do.
+// Whether a body of these definitions has more than a few commands.
+fn are_long(subject: &Subject<'_>, definitions: &[u32]) -> bool {
+    for number in definitions {
+        if is_long(subject, *number) {
+            return true;
+        }
+    }
+    false
+}
+
+fn is_long(subject: &Subject<'_>, definition: u32) -> bool {
+    let index = definition.saturating_sub(1) as usize;
+    match subject.commands.get(index) {
+        Some(command) => extent_of(command) > FEW_COMMANDS,
+        None => false,
+    }
+}
+
+// Has the callers of the function of an index wait, unless they all do, or are late.
 fn wake_callers(waiting: &mut Waiting, index: u16) -> Result<(), AllocError> {
     waiting.note_fall(Reason::Inside);
     if !is_news(&mut waiting.called, index) {
         return Ok(());
     }
+    if waiting.late_calls.keeps(u32::from(index)) {
+        return Ok(());
+    }
     waiting.wait_calls(index as usize)
+}
+
+/// A pass over the commands outside of functions begins.
+pub fn begin_outside(waiting: &mut Waiting) {
+    waiting.late_calls.begin();
+    waiting.late_entries.begin();
+}
+
+/// Something fell in an item. Reports whether that is handed on later to the next item, since it
+/// fell in many sweeps. These are the numbers of the first commands of both.
+pub fn holds_back(waiting: &mut Waiting, item: u32, next: u32) -> bool {
+    waiting.late_items.begin();
+    if !waiting.late_items.keeps(item) {
+        return false;
+    }
+    waiting.late_items.keep(next);
+    true
+}
+
+/// Has those wait that look at what is late: first of functions with few callers and short bodies,
+/// and of all else if none of these is late.
+///
+/// # Errors
+///
+/// If a growth was refused.
+pub fn wake_late(subject: &Subject<'_>, waiting: &mut Waiting) -> Result<(), AllocError> {
+    if wake_functions(subject, waiting, false)? {
+        return Ok(());
+    }
+    wake_items(subject, waiting)?;
+    wake_functions(subject, waiting, true)?;
+    Ok(())
+}
+
+fn wake_items(subject: &Subject<'_>, waiting: &mut Waiting) -> Result<(), AllocError> {
+    waiting.late_items.renew();
+    for command in subject.commands {
+        if waiting.late_items.take(command.number) {
+            waiting.wait(command.number)?;
+        }
+    }
+    Ok(())
+}
+
+// Of all functions, or of those with few callers and short bodies. Reports whether any was late.
+fn wake_functions(
+    subject: &Subject<'_>,
+    waiting: &mut Waiting,
+    are_all: bool,
+) -> Result<bool, AllocError> {
+    let mut is_late = false;
+    for index in 0..subject.table.functions().len() {
+        let function = index as u32;
+        is_late |= wake_late_callers(waiting, function, are_all)?;
+        is_late |= wake_late_bodies(subject, waiting, function, are_all)?;
+    }
+    Ok(is_late)
+}
+
+fn wake_late_callers(
+    waiting: &mut Waiting,
+    function: u32,
+    are_all: bool,
+) -> Result<bool, AllocError> {
+    let is_woken = are_all || waiting.callers(function as usize).len() <= FEW_CALLERS;
+    if !is_woken || !waiting.late_calls.take(function) {
+        return Ok(false);
+    }
+    waiting.wait_calls(function as usize)?;
+    Ok(true)
+}
+
+fn wake_late_bodies(
+    subject: &Subject<'_>,
+    waiting: &mut Waiting,
+    function: u32,
+    are_all: bool,
+) -> Result<bool, AllocError> {
+    let definitions = definitions_of(subject, function);
+    let is_woken = are_all || !are_long(subject, definitions);
+    if !is_woken || !waiting.late_entries.take(function) {
+        return Ok(false);
+    }
+    waiting.wait_bodies(definitions)?;
+    Ok(true)
 }
 
 // Has those wait that look at a place. The sweep itself goes on to what looks at the other places.

@@ -22,14 +22,14 @@ ghost use Rattle.sh_drafts.specs.Ready.{IsReady, IsSwept, Keeps};
 use crate::own::is_entered;
 use crate::sweep::{LEVELS, sweep_definition, sweep_items};
 use sh_domain::{Certificate, FlowRule, Knowledge};
-use sh_drafts::{Draft, Place, Subject, enter_function, lower_assured};
+use sh_drafts::{Draft, Place, Subject, begin_outside, enter_function, lower_assured, wake_late};
 use sh_rules::{Around, Course, Place as Slot, alone, begun};
 use sh_sweeps::known::{nonzero_of, zero_of};
 use sh_sweeps::nowhere::nothing_behind;
 use sh_sweeps::{claims_of, spot_of};
 use sh_tree::{Command, Item, Kind, Span};
-use sh_worklist::Unit;
-use std::alloc::AllocError;
+use sh_worklist::{Unit, Waiting};
+use std::alloc::{AllocError, Global};
 
 // How many bodies of a function a call goes over at once. The others are left to later units, so
 // that a function of many definitions is not gone over for each call.
@@ -249,6 +249,7 @@ fn sweep_outside(subject: &Subject<'_>, draft: &mut Draft) -> Result<(), AllocEr
     requires { IsReady subject.now draft.old.certificate draft.old.probe.count }
     ensures { IfOk result (λ unit. IsSwept subject.now draft.old.certificate draft.new.certificate draft.new.probe.count) }
 {
+    begin_outside(&mut draft.waiting);
     let mut course = from_start(subject, &*draft);
     let outside = alone();
     let items = subject.tree.items.as_slice();
@@ -265,6 +266,20 @@ fn sweep_unit(subject: &Subject<'_>, draft: &mut Draft, unit: Unit) -> Result<()
     }
 }
 
+// The next unit. If none waits, those wait that look at what is late.
+fn next_unit(
+    alloc: Global,
+    subject: &Subject<'_>,
+    waiting: &mut Waiting,
+) -> Result<Option<Unit>, AllocError> {
+    let unit = waiting.next_unit(alloc, subject.table)?;
+    if unit.is_some() {
+        return Ok(unit);
+    }
+    wake_late(subject, waiting)?;
+    waiting.next_unit(alloc, subject.table)
+}
+
 /// Lowers a certificate at the commands that wait until none does, or until the counts are to be
 /// solved apart. A sweep is a hint: its clause is true of one that lowers nothing too. The turns
 /// after it lower what it leaves.
@@ -277,7 +292,7 @@ pub fn sweep_waiting(subject: &Subject<'_>, draft: &mut Draft) -> Result<(), All
     ensures { IfOk result (λ unit. IsSwept subject.now draft.old.certificate draft.new.certificate draft.new.probe.count) }
 {
     for _unit in 0..u32::MAX {
-        let Some(unit) = draft.waiting.next_unit(draft.alloc, subject.table)? else {
+        let Some(unit) = next_unit(draft.alloc, subject, &mut draft.waiting)? else {
             return Ok(());
         };
         sweep_unit(subject, draft, unit)?;

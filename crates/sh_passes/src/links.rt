@@ -9,6 +9,7 @@ ghost use Rattle.sh_rules.specs.Walks as walks;
 ghost use Rattle.sh_sweeps.specs.Sweeps.{AreLinks, IsAndOr, known_behind};
 ghost use Rattle.sh_drafts.specs.Ready.{IsReady, IsSwept};
 
+use crate::looks::is_link_held;
 use crate::sweep::sweep_pipe;
 use sh_domain::{FlowRule, Knowledge};
 use sh_drafts::{Draft, Subject};
@@ -66,7 +67,8 @@ fn sweep_links(
         if next == links.len() {
             return Ok(());
         }
-        sweep_link(subject, draft, levels, around, behind, &links[next])?;
+        let rest = &links[next..];
+        sweep_link(subject, draft, levels, around, behind, &links[next], rest)?;
         place = next + 1;
     }
     Ok(())
@@ -156,6 +158,7 @@ fn sweep_link(
     around: &Around<'_>,
     behind: &mut Behind,
     link: &(Link, Pipe),
+    rest: &[(Link, Pipe)],
 ) -> Result<(), AllocError>
     requires ready { IsReady subject.now draft.old.certificate draft.old.probe.count }
     requires placed { (others : List (list_link.Link × pipeline.Pipe)) × AreLinks subject.now (walks.around subject.now.script.now around.now) (known_behind subject.now behind.old) (link.now ∷ others) }
@@ -166,7 +169,9 @@ fn sweep_link(
 {
     let before = draft.traces;
     enter_link(subject, draft, levels, around, &*behind, link)?;
-    let is_new = draft.traces != before;
+    let has_fallen = draft.traces.falls != before.falls;
+    let is_held = is_link_held(subject, &mut draft.waiting, has_fallen, rest);
+    let is_new = draft.traces != before && !is_held;
     link_if(subject, &draft.certificate, behind, link, is_new);
     Ok(())
 }

@@ -1,9 +1,12 @@
 //! How long a look at a command takes, what traces it leaves, and whether the command has words
 //! that hold another: hints.
 
-use sh_drafts::{Subject, Traces};
-use sh_tree::{Clause, Command, Element, Kind, Target};
-use sh_worklist::Look;
+use sh_drafts::extent::last_in_items;
+use sh_drafts::{Subject, Traces, holds_back};
+use sh_sweeps::News;
+use sh_sweeps::waits::{Member, number_at};
+use sh_tree::{Clause, Command, Element, Item, Kind, Link, Pipe, Target};
+use sh_worklist::{Look, Waiting};
 
 // So many bytes of words take as long as a short command.
 const BYTES: u32 = 32;
@@ -75,4 +78,55 @@ fn count(clauses: &[Clause]) -> usize {
         pieces = pieces.saturating_add(1 + clause.patterns.as_slice().len());
     }
     pieces
+}
+
+// If so few commands come after an item or a pipeline in its list, what falls in it is not late.
+const FEW_COMMANDS: u32 = 64;
+
+/// What is new after the first of these items, unless it is handed on later.
+pub fn handed_on(subject: &Subject<'_>, waiting: &mut Waiting, news: News, items: &[Item]) -> News {
+    match items {
+        [item, next, ..] if news == News::Anything => {
+            let last = last_in_items(items);
+            if is_held_back(subject, waiting, item, next, last) {
+                News::Nothing
+            } else {
+                news
+            }
+        }
+        _ => news,
+    }
+}
+
+/// Whether what fell in the first of these pipelines, if it has fallen, is handed on later.
+pub fn is_link_held(
+    subject: &Subject<'_>,
+    waiting: &mut Waiting,
+    has_fallen: bool,
+    links: &[(Link, Pipe)],
+) -> bool {
+    match links {
+        [link, next, .., last] if has_fallen => {
+            let last = last.1.parts.as_slice().last();
+            is_held_back(subject, waiting, link, next, last)
+        }
+        _ => false,
+    }
+}
+
+// Whether what fell in one is handed on later to the next, since it fell in many sweeps and many
+// commands come after it up to the last.
+fn is_held_back<M: Member>(
+    subject: &Subject<'_>,
+    waiting: &mut Waiting,
+    member: &M,
+    next: &M,
+    last: Option<&Command>,
+) -> bool {
+    let number = member.number(subject);
+    let end = match last {
+        Some(last) => number_at(subject, end_of_words(last)),
+        None => number,
+    };
+    end.saturating_sub(number) > FEW_COMMANDS && holds_back(waiting, number, next.number(subject))
 }

@@ -19,7 +19,7 @@ ghost use Rattle.sh_drafts.specs.Ready.{IsReady, IsSwept};
 use crate::bodies::{is_called_again, sweep_called};
 use crate::choices::{sweep_case, sweep_cond};
 use crate::links::sweep_joined;
-use crate::looks::{is_before_next, traced};
+use crate::looks::{handed_on, is_before_next, traced};
 use crate::own::{is_entered, lower_behind, lower_command};
 use crate::rounds::sweep_rounds;
 use crate::words::{sweep_elements, sweep_for_words, sweep_redirections};
@@ -72,6 +72,7 @@ pub fn sweep_items(
         place = next + 1;
         let item = &items[next];
         news = sweep_or_pass(subject, draft, levels, around, course, news, item)?;
+        news = handed_on(subject, &mut draft.waiting, news, &items[next..]);
     }
     Ok(())
 }

@@ -4,6 +4,7 @@
 mod calls;
 mod commands;
 mod flags;
+mod late;
 mod order;
 mod ordered;
 mod units;
@@ -12,6 +13,7 @@ mod waiting;
 pub use calls::Calls;
 pub use commands::{Inside, Look};
 pub use flags::Flags;
+pub use late::Late;
 pub use ordered::Reason;
 pub use units::{Unit, Units};
 pub use waiting::Waiting;

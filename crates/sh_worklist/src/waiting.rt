@@ -12,10 +12,17 @@ ghost use Rattle.sh_worklist.specs.Waiting.{limit, waits, waits_in, waits_inside
 use crate::calls::Calls;
 use crate::commands::{Commands, Inside, Look};
 use crate::flags::Flags;
+use crate::late::Late;
 use crate::ordered::Reason;
 use crate::units::{Unit, Units};
 use sh_table::CallTable;
 use std::alloc::{AllocError, Global};
+
+// What falls of a function in so few passes over the commands outside is not late.
+const FEW_PASSES: u32 = 3;
+
+// What falls in an item in so few sweeps is not late.
+const FEW_SWEEPS: u32 = 12;
 
 /// The commands that wait to be looked at, each at most once, and the units that they are in.
 #[derive(Drop)]
@@ -30,6 +37,12 @@ pub struct Waiting {
     pub entered: Flags,
     /// The index of the function whose body the sweep is in: a hint.
     pub function: u16,
+    /// The functions, by their indices, whose callers look at them later: a hint.
+    pub late_calls: Late,
+    /// The functions, by their indices, whose bodies are entered with less later: a hint.
+    pub late_entries: Late,
+    /// The first commands of items that hand on later what falls in them: a hint.
+    pub late_items: Late,
 }
 
 impl Waiting {
@@ -50,6 +63,9 @@ impl Waiting {
             called: Flags::none(alloc, functions)?,
             entered: Flags::none(alloc, functions)?,
             function: 0,
+            late_calls: Late::none(alloc, functions, FEW_PASSES)?,
+            late_entries: Late::none(alloc, functions, FEW_PASSES)?,
+            late_items: Late::none(alloc, table.rows().len() + 1, FEW_SWEEPS)?,
         })
     }
 
@@ -191,6 +207,13 @@ impl Waiting {
         ensures rest { self.new ≡ record self.old { commands = self.new.commands; units = self.new.units } }
     {
         wait_one(&mut self.commands, &mut self.units, command)
+    }
+
+    /// The commands that call the function of an index, by rising numbers.
+    pub fn callers(&self, function: usize) -> &[u32]
+        ensures { result.now ≡ callers_in self.now.calls function }
+    {
+        self.calls.callers(function)
     }
 
     /// Has each command wait that calls the function of an index.
