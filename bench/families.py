@@ -375,8 +375,8 @@ def reached_back(opens, part, filler, closes):
     return of
 
 
-def reached_by_others(opens, part, filler, closes):
-    """Parts of a function that are reached from the last to the first, one in each pass over what is outside. Each part loses a name. N stands for its number. Others are the rest."""
+def reached_by_others(opens, part, filler, closes, between=""):
+    """Parts of a function that are reached from the last to the first, one in each pass over what is outside. Each part loses a name. N stands for its number. After what is between, others are the rest."""
 
     def of(size):
         count = count_of(size // 2, f"g1000() {{ exit; }}\nf1000() {{ g1000; }}\nv1000=\n{part}( f1000; unset -f g1000; f1000 ) | b\n1000", MOST_NAMES // 3)
@@ -384,11 +384,21 @@ def reached_by_others(opens, part, filler, closes):
         chain = [f"( f{n + 1}; unset -f g{n}; f{n} ) | b\n" for n in range(count)] + [f"( unset -f g{count}; f{count} ) | b\n"]
         parts = "".join(part.replace("N", str(n)) for n in range(count + 1))
         ends = closes + "".join(chain)
-        text = text_of(lines) + opens + parts
+        text = text_of(lines) + opens + parts + between
         room = min(size - len(text) - len(ends), (MOST_COMMANDS - 14 * count) * len(filler) // 2)
         return text + filler * max(0, room // len(filler)) + ends
 
     return of
+
+
+def loses_by_one(calls):
+    """A function that loses names one by one, one in each pass over what is outside, and is called so."""
+    return reached_by_others("F() { case x in\n", "N) fN; unset vN;;\n", calls, "", "esac; }\n")
+
+
+def enters_with_less(body):
+    """A function of a long body, which is entered with less by one caller after the other, from the last to the first."""
+    return lambda size: reached_back("F() {\n" + body * (size // 3 // len(body)) + "}\n", "( C; F ) | b\n", "a|b\n", "")(size)
 
 
 def long_body(opens, piece, closes=""):
@@ -786,6 +796,26 @@ FAMILIES = {
     "reached back in definitions": (reached_back("a", " || ( C )", "||f() { b; }", "\n"), ()),
     "reached by others in case": (reached_by_others("h() { case x in\n", "a) fN; unset vN;;\n", "a) b;;\n", "esac; }\nh | a\n"), ()),
     "reached by others in if": (reached_by_others("h() { if a; then b\n", "elif a; then fN; unset vN\n", "elif a; then b\n", "fi; }\nh | a\n"), ()),
+    "calls of one that loses": (loses_by_one("F\n"), ()),
+    "calls of one that loses in links": (loses_by_one("a && F || b\n"), ()),
+    "calls of one that loses in words": (loses_by_one("b $(F)\n"), ()),
+    "calls of one that loses in groups": (loses_by_one("{ " * 50 + "F" + "; }" * 50 + "\n"), ()),
+    "calls of one that loses in loops": (loses_by_one("while a; do " * 50 + "F" + "; done" * 50 + "\n"), ()),
+    "calls of one that loses in bodies": (loses_by_one("h() { F; F; F; }\nh\n"), ()),
+    "calls of one that loses deep in bodies": (loses_by_one("h() { " + "{ " * 40 + "F" + "; }" * 40 + "; }\nh\n"), ()),
+    "entered with less": (enters_with_less("a\n"), ()),
+    "entered with less in links": (enters_with_less("a && a || a\n"), ()),
+    "entered with less in a loop": (enters_with_less("while a; do b; done\n"), ()),
+    "entered with less, and calls": (enters_with_less("h() { b; }\nh\n"), ()),
+    "losses before lines": (reached_back("", "c && { C; }\n", "a\n", ""), ()),
+    "losses before links": (lambda size: reached_back("", "c && { C; }\n", "a|b\n", "c" + " && a" * (size // 15) + "\n")(size), ()),
+    "losses before a case": (lambda size: reached_back("", "c && { C; }\n", "a|b\n", "case x in\n" + "1) a;;\n" * (size // 21) + "esac\n")(size), ()),
+    "losses before words": (lambda size: reached_back("", "c && { C; }\n", "a|b\n", "c" + " $(a)" * (size // 15) + "\n")(size), ()),
+    "losses in a loop": (reached_back("while x; do\n", "c && { C; }\n", "a\n", "done\n"), ()),
+    "losses in links": (reached_back("d", " || c && { C; }", " || a", "\n"), ()),
+    "losses in a function": (reached_back("F() {\n", "c && { C; }\n", "a\n", "}\nF\n"), ()),
+    "losses before loops": (reached_back("", "c && { C; }\n", "while a; do b; done\n", ""), ()),
+    "losses before calls": (reached_back("h() { b; }\n", "c && { C; }\n", "h\n", ""), ()),
     "long body of words": (long_body("echo ", "a "), ()),
     "long body of a word": (long_body("echo $(b)", '"a"'), ()),
     "long body of operands": (long_body("unset ", "z "), ()),
@@ -828,7 +858,16 @@ def findings_of(text, lines):
     return lines / straight(len(text)).count("\n") / 4 / MOST_RATIO
 
 
-# How often MOST_RATIO a family may take if what it has to find grows faster than its text.
+# What falls again and again goes over all commands in so many sweeps, at most, before it is late.
+SWEEPS = 4
+
+
+def sweeps_of(_text, _lines):
+    """Losses come one by one, so each command is looked at a dozen times and more, whatever the size."""
+    return SWEEPS
+
+
+# How often MOST_RATIO a family may take if what it has to find grows faster than its text, or if its losses come one by one.
 ROUNDS = {
     "triggers": rounds_of,
     "triggers before": rounds_of,
@@ -837,6 +876,7 @@ ROUNDS = {
     "trigger calls": rounds_of,
     "findings of parts": findings_of,
     "findings of parts of parts": findings_of,
+    **{name: sweeps_of for name in FAMILIES if name.startswith(("calls of one that loses", "entered with less", "losses "))},
 }
 
 
