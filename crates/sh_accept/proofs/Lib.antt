@@ -26,3 +26,6 @@ pub mod InsideLemmas
 pub mod CodeLemmas
 pub mod OnceLemmas
 pub mod StaticLemmas
+pub mod LoneReadingLemmas
+pub mod KnownTextLemmas
+pub mod AcceptedExampleLemmas

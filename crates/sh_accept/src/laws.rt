@@ -1,5 +1,6 @@
 //! What an accepted certificate is good for, and what holds of the answers that `specs/` defines.
 ghost use Rattle.sh_accept.specs.Computed.{HasOneAnswer};
+ghost use Rattle.sh_accept.specs.examples.Accepted.{KnownIsAccepted};
 ghost use Rattle.sh_accept.specs.examples.Answers.{AnswersAsExpected};
 ghost use Rattle.sh_accept.specs.Fillable.{ReadIsFillable};
 ghost use Rattle.sh_accept.specs.Greatest.{GreatestIsBest};
@@ -37,10 +38,16 @@ pub fn answers()
     ensures { HasOneAnswer }
 {}
 
-/// Known texts are answered as they should be: passes, findings in their order, each kind of
-/// forgery, and each refusal before the next.
+/// Known programs, with texts of certificates, are answered as they should be: passes, findings in
+/// their order, forgeries, and each refusal before the next.
 pub fn examples()
     ensures { AnswersAsExpected }
+{}
+
+/// `echo "$x"` is accepted if x is declared. A check of its certificate's full or compact text
+/// passes, and so does a lint.
+pub fn accepted()
+    ensures { KnownIsAccepted }
 {}
 
 /// The greatest certificate of a script leaves no place unmet that another one meets. So it is
