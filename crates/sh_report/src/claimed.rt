@@ -7,7 +7,7 @@ ghost use Rattle.sh_judged.specs.Prepared.{AnswersText, IsPrepared, IsRead, shee
 
 use sh_domain::{Certificate, Given, Policy};
 use sh_facts::read_any;
-use sh_flow::fill;
+use sh_find::fill;
 use sh_judged::Prepared;
 use sh_tree::Refusal;
 use std::alloc::{AllocError, Global};
