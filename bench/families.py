@@ -812,6 +812,7 @@ FAMILIES = {
     "losses before a case": (lambda size: reached_back("", "c && { C; }\n", "a|b\n", "case x in\n" + "1) a;;\n" * (size // 21) + "esac\n")(size), ()),
     "losses before words": (lambda size: reached_back("", "c && { C; }\n", "a|b\n", "c" + " $(a)" * (size // 15) + "\n")(size), ()),
     "losses in a loop": (reached_back("while x; do\n", "c && { C; }\n", "a\n", "done\n"), ()),
+    "losses in clauses that fall": (reached_back("case x in\n", "1) C;&\n", "2) a;;\n", "esac\n"), ()),
     "losses in links": (reached_back("d", " || c && { C; }", " || a", "\n"), ()),
     "losses in a function": (reached_back("F() {\n", "c && { C; }\n", "a\n", "}\nF\n"), ()),
     "losses before loops": (reached_back("", "c && { C; }\n", "while a; do b; done\n", ""), ()),
@@ -858,12 +859,12 @@ def findings_of(text, lines):
     return lines / straight(len(text)).count("\n") / 4 / MOST_RATIO
 
 
-# What falls again and again goes over all commands in so many sweeps, at most, before it is late.
-SWEEPS = 4
+# What falls again and again goes over all commands in so many sweeps, at most, once it is no longer late.
+SWEEPS = 2
 
 
 def sweeps_of(_text, _lines):
-    """Losses come one by one, so each command is looked at a dozen times and more, whatever the size."""
+    """Losses come one by one, so each command is looked at some more times, whatever the size."""
     return SWEEPS
 
 

@@ -17,6 +17,9 @@ const FEW_CALLERS: usize = 4;
 // So does a body with so few commands.
 const FEW_COMMANDS: u32 = 64;
 
+// In so many passes more than others either may fall before it is late.
+const MORE_PASSES: u32 = 2;
+
 // Adds an index to a set. Reports whether it was not there.
 fn is_news(indices: &mut Flags, index: u16) -> bool {
     let is_news = !indices.has(u32::from(index));
@@ -38,10 +41,16 @@ fn wake_bodies(subject: &Subject<'_>, waiting: &mut Waiting, index: u16) -> Resu
     if !is_news(&mut waiting.entered, index) {
         return Ok(());
     }
-    if waiting.late_entries.keeps(u32::from(index)) {
+    let definitions = definitions_of(subject, u32::from(index));
+    let more = if are_long(subject, definitions) {
+        0
+    } else {
+        MORE_PASSES
+    };
+    if waiting.late_entries.keeps(u32::from(index), more) {
         return Ok(());
     }
-    waiting.wait_bodies(definitions_of(subject, u32::from(index)))
+    waiting.wait_bodies(definitions)
 }
 
 // Whether a body of these definitions has more than a few commands.
@@ -62,13 +71,22 @@ fn is_long(subject: &Subject<'_>, definition: u32) -> bool {
     }
 }
 
+fn has_few_callers(waiting: &Waiting, index: usize) -> bool {
+    waiting.callers(index).len() <= FEW_CALLERS
+}
+
 // Has the callers of the function of an index wait, unless they all do, or are late.
 fn wake_callers(waiting: &mut Waiting, index: u16) -> Result<(), AllocError> {
     waiting.note_fall(Reason::Inside);
     if !is_news(&mut waiting.called, index) {
         return Ok(());
     }
-    if waiting.late_calls.keeps(u32::from(index)) {
+    let more = if has_few_callers(waiting, index as usize) {
+        MORE_PASSES
+    } else {
+        0
+    };
+    if waiting.late_calls.keeps(u32::from(index), more) {
         return Ok(());
     }
     waiting.wait_calls(index as usize)
@@ -84,7 +102,7 @@ pub fn begin_outside(waiting: &mut Waiting) {
 /// fell in many sweeps. These are the numbers of the first commands of both.
 pub fn holds_back(waiting: &mut Waiting, item: u32, next: u32) -> bool {
     waiting.late_items.begin();
-    if !waiting.late_items.keeps(item) {
+    if !waiting.late_items.keeps(item, 0) {
         return false;
     }
     waiting.late_items.keep(next);
@@ -101,19 +119,24 @@ pub fn wake_late(subject: &Subject<'_>, waiting: &mut Waiting) -> Result<(), All
     if wake_functions(subject, waiting, false)? {
         return Ok(());
     }
-    wake_items(subject, waiting)?;
+    if wake_items(subject, waiting)? && waiting.late_items.renew() {
+        waiting.late_calls.renew();
+        waiting.late_entries.renew();
+    }
     wake_functions(subject, waiting, true)?;
     Ok(())
 }
 
-fn wake_items(subject: &Subject<'_>, waiting: &mut Waiting) -> Result<(), AllocError> {
-    waiting.late_items.renew();
+// Reports whether any item was late.
+fn wake_items(subject: &Subject<'_>, waiting: &mut Waiting) -> Result<bool, AllocError> {
+    let mut is_late = false;
     for command in subject.commands {
         if waiting.late_items.take(command.number) {
             waiting.wait(command.number)?;
+            is_late = true;
         }
     }
-    Ok(())
+    Ok(is_late)
 }
 
 // Of all functions, or of those with few callers and short bodies. Reports whether any was late.
@@ -136,7 +159,7 @@ fn wake_late_callers(
     function: u32,
     are_all: bool,
 ) -> Result<bool, AllocError> {
-    let is_woken = are_all || waiting.callers(function as usize).len() <= FEW_CALLERS;
+    let is_woken = are_all || has_few_callers(waiting, function as usize);
     if !is_woken || !waiting.late_calls.take(function) {
         return Ok(false);
     }

@@ -5,6 +5,9 @@ ghost use Rattle.sh_worklist.specs.Flags.{is_in, limit_of};
 use crate::flags::Flags;
 use std::alloc::{AllocError, Global};
 
+// What falls in so many passes is not late, once all that was kept was taken.
+const PASSES_AFTER: u32 = 12;
+
 // In how many passes something fell since all that was kept was taken, and in which one last.
 #[derive(Clone, Copy, Debug, PartialEq, Eq)]
 struct Falls {
@@ -77,12 +80,12 @@ impl Late {
         falls.count
     }
 
-    /// That of a number falls. Reports whether it did so in more than a few passes. Then it is
-    /// kept.
-    pub fn keeps(&mut self, number: u32) -> bool
+    /// That of a number falls. Reports whether it did so in more than a few passes, and so many
+    /// more. Then it is kept.
+    pub fn keeps(&mut self, number: u32, more: u32) -> bool
         ensures kept { (k : ℕ) → is_in self.new.kept k ≡ ((result && ((k == number) && nat_lt number (limit_of self.old.kept))) || is_in self.old.kept k) }
     {
-        let is_late = self.count(number) > self.few;
+        let is_late = self.count(number) > self.few.saturating_add(more);
         if is_late {
             self.kept.add(number);
         }
@@ -104,10 +107,14 @@ impl Late {
         self.kept.take(number)
     }
 
-    /// All that was kept is taken: what falls from now on is counted anew.
-    pub fn renew(&mut self)
+    /// All that was kept is taken: what falls from now on is counted anew, and is late after more
+    /// passes. Reports whether that is so for the first time.
+    pub fn renew(&mut self) -> bool
         ensures { self.new.kept ≡ self.old.kept }
     {
+        let is_first = self.term == 0;
         self.term = self.term.saturating_add(1);
+        self.few = PASSES_AFTER;
+        is_first
     }
 }

@@ -19,10 +19,10 @@ use sh_table::CallTable;
 use std::alloc::{AllocError, Global};
 
 // What falls of a function in so few passes over the commands outside is not late.
-const FEW_PASSES: u32 = 3;
+const FEW_PASSES: u32 = 1;
 
 // What falls in an item in so few sweeps is not late.
-const FEW_SWEEPS: u32 = 12;
+const FEW_SWEEPS: u32 = 1;
 
 /// The commands that wait to be looked at, each at most once, and the units that they are in.
 #[derive(Drop)]
