@@ -859,7 +859,7 @@ def findings_of(text, lines):
     return lines / straight(len(text)).count("\n") / 4 / MOST_RATIO
 
 
-# What falls again and again goes over all commands in so many sweeps, at most, once it is no longer late.
+# Losses that come one by one may take so many times MOST_RATIO: some sweeps go over all commands again.
 SWEEPS = 2
 
 
