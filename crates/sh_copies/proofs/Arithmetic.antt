@@ -127,7 +127,7 @@ module _ {limit n : ℕ} (expansions : ExpansionsMove limit n) {b b' : List ℕ}
         record {
           to = behind inside.to.at inside.to s';
           tree = expr.Assign (figure_span b' s') o inside.tree;
-          moved = moved_behind c u inside.to m inside.moved.place;
+          moved = moved_behind c u inside.to inside.moved.counts m inside.moved.place;
           keeps = keeps_as b b' _ _ _ _ (of_assign (figure_span b s) o e) (of_assign (figure_span b' s') o inside.tree) inside.keeps;
           reads = r.assignment (t.is ∙ name) (ap assignment_of k.is ∙ a) (less_deep s.depth s'.depth limit m.depth d) inside.reads;
         }
@@ -155,7 +155,7 @@ module _ {limit n : ℕ} (expansions : ExpansionsMove limit n) {b b' : List ℕ}
         record {
           to = behind third.to.at third.to first.to;
           tree = expr.Choice first.tree second.tree third.tree;
-          moved = moved_behind c w third.to first.moved third.moved.place;
+          moved = moved_behind c w third.to third.moved.counts first.moved third.moved.place;
           keeps = keeps_choice b b' condition whole other first.tree second.tree third.tree first.keeps second.keeps third.keeps;
           reads = r.choice first.reads (t.is ∙ h) (less_deep u.depth first.to.depth limit first.moved.depth d) second.reads (q.is ∙ k) third.reads;
         }
@@ -229,7 +229,7 @@ module _ {limit n : ℕ} (expansions : ExpansionsMove limit n) {b b' : List ℕ}
         record {
           to = behind inside.to.at inside.to s';
           tree = expr.Unary o inside.tree;
-          moved = moved_behind c u inside.to m inside.moved.place;
+          moved = moved_behind c u inside.to inside.moved.counts m inside.moved.place;
           keeps = keeps_as b b' _ _ _ _ (of_unary o e) (of_unary o inside.tree) inside.keeps;
           reads = r.signed h (less_deep s.depth s'.depth limit m.depth d) inside.reads;
         }
@@ -243,7 +243,7 @@ module _ {limit n : ℕ} (expansions : ExpansionsMove limit n) {b b' : List ℕ}
         record {
           to = behind (over b' inside.to).at inside.to s';
           tree = expr.Parenthesis inside.tree;
-          moved = moved_behind c u inside.to m q.behind.place;
+          moved = moved_behind c u inside.to inside.moved.counts m q.behind.place;
           keeps = keeps_as b b' _ _ _ _ (of_parenthesis e) (of_parenthesis inside.tree) inside.keeps;
           reads = r.parenthesis (less_deep s.depth s'.depth limit m.depth d) inside.reads (q.is ∙ h);
         }

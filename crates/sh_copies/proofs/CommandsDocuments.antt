@@ -185,8 +185,8 @@ unfolding in_document_of
 turned_body m = refl
 
 -- the text that a body is read in, whose end is the body
-abbrev pub body_copy : (b b' v : List ℕ) (i i' k k' : ℕ) → k ≡ i + length v → k' ≡ i' + length v → take (length v) (drop i b) ≡ v → take (length v) (drop i' b') ≡ v → Copied (take k b) (take k' b')
-body_copy b b' v i i' k k' e e' h h' = record {
+abbrev pub body_copy : (b b' v : List ℕ) (i i' k k' n n' : ℕ) → k ≡ i + length v → k' ≡ i' + length v → take (length v) (drop i b) ≡ v → take (length v) (drop i' b') ≡ v → Copied (take k b) (take k' b')
+body_copy b b' v i i' k k' n n' e e' h h' = record {
   from = i;
   into = i';
   w = v;
@@ -195,31 +195,35 @@ body_copy b b' v i i' k k' e e' h h' = record {
   there = ap (λ n. drop i (take n b)) e ∙ drop-take i (length v) b ∙ h ∙ sym (append-nil v);
   here = ap (λ n. drop i' (take n b')) e' ∙ drop-take i' (length v) b' ∙ h' ∙ sym (append-nil v);
   edge = inl refl;
+  began = n;
+  began' = n';
 }
 
 -- a body that is read in a front of the text, at its copy
-pub record FoundBody (limit : ℕ) (b' : List ℕ) (m : Mark) (s' : Spot) (k' : ℕ) : Type 0 where
+pub record FoundBody (limit : ℕ) (b' : List ℕ) (m : Mark) (s s' v : Spot) (k' : ℕ) : Type 0 where
   pub u : Spot
   pub parts : List Part
   pub reads : ReadsParts limit (take k' b') (in_document_of m) 10 s' u parts
   pub keeps : keeps_lines b' (not m.quoted) parts ≡ true
+  pub counts : u.count + s.count ≡ v.count + s'.count
 
 pub body_moves : {limit n : ℕ} → PartsMove limit n → (b b' v : List ℕ) (m : Mark) (s s' u : Spot) (k k' : ℕ) (ps : List Part) → k ≡ s.at + length v → k' ≡ s'.at + length v
     → take (length v) (drop s.at b) ≡ v → take (length v) (drop s'.at b') ≡ v → s'.depth ≡ s.depth → s'.joins ≡ s.joins → s'.tabs ≡ s.tabs → (s'.quiet ≡ true → s.quiet ≡ true)
-    → k ≤ length b → k' ≤ length b' → k < s.at + n → ReadsParts limit (take k b) (in_document_of m) 10 s u ps → keeps_lines b (not m.quoted) ps ≡ true → FoundBody limit b' m s' k'
+    → k ≤ length b → k' ≤ length b' → k < s.at + n → ReadsParts limit (take k b) (in_document_of m) 10 s u ps → keeps_lines b (not m.quoted) ps ≡ true → FoundBody limit b' m s s' u k'
 body_moves {limit} {n} parts b b' v m s s' u k k' ps e e' h h' depth joins tabs quiet inside inside' short reads keeps =
-    let copy = body_copy b b' v s.at s'.at k k' e e' h h' in
+    let copy = body_copy b b' v s.at s'.at k k' s.count s'.count e e' h h' in
     let long = length-take k b in
     let long' = length-take k' b' in
     let within = parts_inside reads (omega arith) in
     let last = within.0 in
     let stops = body_stops m in
     let place : Place copy s.at s'.at = record { by = 0; at = omega arith; at' = omega arith } in
-    let found = parts.parts copy (record { place = place; depth = depth; joins = joins; tabs = tabs; quiet = quiet }) (λ no. absurd (true≢false (sym (quoted_body m) ∙ no))) reads (omega arith) (omega arith) in
+    let found = parts.parts copy (record { place = place; depth = depth; joins = joins; tabs = tabs; quiet = quiet; counts = omega arith }) (λ no. absurd (true≢false (sym (quoted_body m) ∙ no))) reads (omega arith) (omega arith) in
     let reads' : ReadsParts limit (take k' b') (in_document_of m) 10 s' found.to found.tree = subst (λ x. ReadsParts limit (take k' b') x 10 s' found.to found.tree) (turned_body m) found.reads in
     record {
       u = found.to;
       parts = found.tree;
       reads = reads';
       keeps = keeps_same b b' (not m.quoted) k k' ps found.tree within.1 (parts_inside reads' (omega arith)).1 found.keeps.lines ∙ keeps;
+      counts = found.moved.counts;
     }

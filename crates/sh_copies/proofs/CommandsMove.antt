@@ -168,7 +168,7 @@ module _ {limit n : ℕ} (words : WordsMove limit n) (parts : PartsMove limit n)
       refl refl (ap (λ t. t || k.strip) m.spot.tabs) (λ q. absurd (true≢false (sym q))) (omega arith) (omega arith) (omega arith) reads lines in
       let d : Document = record { text = tree.word s.spot.at l.start ps; end = l } in
       let d' : Document = record { text = tree.word s'.spot.at end.to.start found.parts; end = end.to } in
-      let rest = documents_move (moved_document c ahead d d' u found.u m end.behind) ds (omega arith) within in (
+      let rest = documents_move (moved_document c ahead d d' u found.u (let k = found.counts in let k' = m.spot.counts in omega arith) m end.behind) ds (omega arith) within in (
         rest.0,
         rest.1,
         r.more_bodies end.is (ambiguity_same k b b' s.spot.at s'.spot.at l end.to text (same_text c end.start end.end high (omega arith)) ∙ a)

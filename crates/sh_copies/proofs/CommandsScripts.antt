@@ -57,6 +57,8 @@ cut_copy c k closing = record {
   there = c.there ∙ ap (λ z. z ++ c.rest) (sym (take-append-drop k c.w)) ∙ append_assoc (take k c.w) (drop k c.w) c.rest;
   here = c.here ∙ ap (λ z. z ++ c.rest') (sym (take-append-drop k c.w)) ∙ append_assoc (take k c.w) (drop k c.w) c.rest';
   edge = inr (record { c = 41; r = closing.r; r' = closing.r'; closes = refl; there = closing.there; here = closing.here });
+  began = c.began;
+  began' = c.began';
 }
 
 pub scripts_move : {limit n : ℕ} → WordsMove limit n → PartsMove limit n → ScriptsMove limit n
@@ -74,7 +76,7 @@ scripts_move {limit} {n} words parts = record {
       let closing = closing_rest (drop k c.w) c.rest c.rest' c.edge (ap (is_first (λ z. z == 41)) (sym there) ∙ closed) in
       let cut = cut_copy c k closing in
       let long = length-take-le k c.w (omega arith) in
-      let moved : Moved cut s s' = record { place = record { by = m.place.by; at = m.place.at; at' = m.place.at' }; depth = m.depth; joins = m.joins; tabs = m.tabs; quiet = m.quiet } in
+      let moved : Moved cut s s' = record { place = record { by = m.place.by; at = m.place.at; at' = m.place.at' }; depth = m.depth; joins = m.joins; tabs = m.tabs; quiet = m.quiet; counts = m.counts } in
       let found = script_moves words parts cut (inr closing) moved reads size (omega arith) (inr (closed_no_sign b u.at closed)) in
       record {
         to = found.to;
@@ -85,6 +87,7 @@ scripts_move {limit} {n} words parts = record {
           joins = found.moved.joins;
           tabs = found.moved.tabs;
           quiet = found.moved.quiet;
+          counts = found.moved.counts;
         };
         keeps = tt;
         reads = found.reads;

@@ -17,7 +17,7 @@ use Rattle.sh_tree.specs.standard.language.Reading.{lead_of, lead_here, skip, be
 use Rattle.sh_tree.specs.standard.language.States.{Spot, State, Document, next, past, begun, lower, as_deep, closing, with_mark, on_line, with_document, facing, waits}
 use Rattle.sh_copies.proofs.AlikeBytes.{by_bool}
 use Rattle.sh_copies.proofs.Blanks.{is_number_sign, blank_moves}
-use Rattle.sh_copies.proofs.Copies.{Copied, Place, Moved, Turns, turned, limit_of}
+use Rattle.sh_copies.proofs.Copies.{Copied, Place, Counts, Moved, Turns, turned, limit_of}
 use Rattle.sh_copies.proofs.Leads.{lead_front, lead_moves, bare_front, bare_moves, name_moves, assignment_moves, behind_digits, digits_move, behind_digits_moves}
 use Rattle.sh_copies.proofs.WordsMove.{equal_far}
 use Rattle.sh_copies.proofs.Places.{left, further as further_on, as_far, moved_to, moved_behind}
@@ -173,7 +173,7 @@ module _ {b b' : List ℕ} (c : Copied b b') (ahead : Ahead c) where
 
   pub moved_past : {s s' : State} {u u' : Spot} → MovedState s s' → Moved c u u' → (past b u s).spot.at ≤ limit_of c → Ready (past b u s).spot.at → MovedState (past b u s) (past b' u' s')
   moved_past {s} {s'} {u} {u'} m k h ready = record {
-    spot = moved_behind c u u' m.spot (subst (λ j. Place c (blanks s.spot.joins b u.at) (blanks j b' u'.at)) (sym m.spot.joins) (blanks_same s.spot.joins k.place h ready));
+    spot = moved_behind c u u' k.counts m.spot (subst (λ j. Place c (blanks s.spot.joins b u.at) (blanks j b' u'.at)) (sym m.spot.joins) (blanks_same s.spot.joins k.place h ready));
     closed = m.closed;
     pending = m.pending;
     count = m.count;
@@ -187,7 +187,7 @@ module _ {b b' : List ℕ} (c : Copied b b') (ahead : Ahead c) where
 
   pub moved_begun : {s s' : State} → MovedState s s' → MovedState (begun s) (begun s')
   moved_begun m = record {
-    spot = record { place = m.spot.place; depth = m.spot.depth; joins = m.spot.joins; tabs = m.spot.tabs; quiet = m.spot.quiet };
+    spot = record { place = m.spot.place; depth = m.spot.depth; joins = m.spot.joins; tabs = m.spot.tabs; quiet = m.spot.quiet; counts = (let k = m.spot.counts in omega arith) };
     closed = m.closed;
     pending = m.pending;
     count = m.count;
@@ -195,7 +195,7 @@ module _ {b b' : List ℕ} (c : Copied b b') (ahead : Ahead c) where
 
   pub moved_lower : {s s' : State} → MovedState s s' → MovedState (lower s) (lower s')
   moved_lower m = record {
-    spot = record { place = m.spot.place; depth = ap (λ n. n + 1) m.spot.depth; joins = m.spot.joins; tabs = m.spot.tabs; quiet = m.spot.quiet };
+    spot = record { place = m.spot.place; depth = ap (λ n. n + 1) m.spot.depth; joins = m.spot.joins; tabs = m.spot.tabs; quiet = m.spot.quiet; counts = m.spot.counts };
     closed = m.closed;
     pending = m.pending;
     count = m.count;
@@ -203,7 +203,7 @@ module _ {b b' : List ℕ} (c : Copied b b') (ahead : Ahead c) where
 
   pub moved_as_deep : {r r' s s' : State} → MovedState r r' → MovedState s s' → MovedState (as_deep r s) (as_deep r' s')
   moved_as_deep k m = record {
-    spot = record { place = m.spot.place; depth = k.spot.depth; joins = m.spot.joins; tabs = m.spot.tabs; quiet = m.spot.quiet };
+    spot = record { place = m.spot.place; depth = k.spot.depth; joins = m.spot.joins; tabs = m.spot.tabs; quiet = m.spot.quiet; counts = m.spot.counts };
     closed = m.closed;
     pending = m.pending;
     count = m.count;
@@ -218,9 +218,9 @@ module _ {b b' : List ℕ} (c : Copied b b') (ahead : Ahead c) where
   pub moved_line : {i i' : ℕ} {s s' : State} → MovedState s s' → Place c i i' → MovedState (on_line i s) (on_line i' s')
   moved_line m p = record { spot = moved_to c m.spot p; closed = m.closed; pending = refl; count = m.count }
 
-  pub moved_document : {i i' : ℕ} (d d' : Document) (u u' : Spot) {s s' : State} → MovedState s s' → Place c i i' → MovedState (with_document i d u s) (with_document i' d' u' s')
-  moved_document d d' u u' {s} {s'} m p = record {
-    spot = moved_behind c u u' m.spot p;
+  pub moved_document : {i i' : ℕ} (d d' : Document) (u u' : Spot) {s s' : State} → Counts c u u' → MovedState s s' → Place c i i' → MovedState (with_document i d u s) (with_document i' d' u' s')
+  moved_document d d' u u' {s} {s'} k m p = record {
+    spot = moved_behind c u u' k m.spot p;
     closed = m.closed;
     pending = m.pending;
     count = length-append s'.bodies (d' ∷ []) ∙ ap (λ n. n + 1) m.count ∙ sym (length-append s.bodies (d ∷ []));
@@ -233,6 +233,7 @@ module _ {b b' : List ℕ} (c : Copied b b') (ahead : Ahead c) where
     joins = m.spot.joins;
     tabs = m.spot.tabs;
     quiet = λ h. still s.spot.quiet s'.spot.quiet (waits s.pending) m.spot.quiet (sym (ap (λ ms. s'.spot.quiet || waits ms) m.pending) ∙ h);
+    counts = m.spot.counts;
   }
     where
       still : (t t' k : Bool) → (t' ≡ true → t ≡ true) → (t' || k) ≡ true → (t || k) ≡ true

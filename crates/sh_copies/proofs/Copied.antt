@@ -8,4 +8,4 @@ use Rattle.sh_copies.proofs.Readings.{parts_all_move}
 use Rattle.sh_copies.proofs.WordsCopied.{word_copied}
 
 pub words_are_copied : WordsAreCopied
-words_are_copied = record { words = word_copied; tokens = token_copied; marks = mark_copied; documents = λ limit. document_copied limit (parts_all_move limit) }
+words_are_copied = record { words = word_copied; tokens = token_copied; marks = mark_copied; documents = λ limit commands. document_copied limit commands (parts_all_move limit) }

@@ -32,7 +32,7 @@ pub record Closed (rest rest' : List ℕ) : Type 0 where
   pub here : rest' ≡ c ∷ r'
 
 -- Bytes of b that are in b' too. Both texts go on alike after them: to the end, or with a byte that
--- closes their context.
+-- closes their context. At one spot of them so many commands have begun in b, and so many in b'.
 pub record Copied (b b' : List ℕ) : Type 0 where
   pub from : ℕ
   pub into : ℕ
@@ -42,6 +42,8 @@ pub record Copied (b b' : List ℕ) : Type 0 where
   pub there : drop from b ≡ w ++ rest
   pub here : drop into b' ≡ w ++ rest'
   pub edge : (rest' ≡ rest) ⊎ Closed rest rest'
+  pub began : ℕ
+  pub began' : ℕ
 
 -- where the copied bytes end in b
 abbrev pub limit_of : {b b' : List ℕ} → Copied b b' → ℕ
@@ -53,14 +55,18 @@ pub record Place {b b' : List ℕ} (c : Copied b b') (i i' : ℕ) : Type 0 where
   pub at : i ≡ c.from + by
   pub at' : i' ≡ c.into + by
 
--- The same spot of the copy. There a newline token may come that might not before, and other
--- commands have begun.
+-- the numbers of commands that have begun at the same spot of the copy
+abbrev pub Counts : {b b' : List ℕ} → Copied b b' → Spot → Spot → Type 0
+Counts c s s' = s'.count + c.began ≡ s.count + c.began'
+
+-- The same spot of the copy. There a newline token may come that might not before.
 pub record Moved {b b' : List ℕ} (c : Copied b b') (s s' : Spot) : Type 0 where
   pub place : Place c s.at s'.at
   pub depth : s'.depth ≡ s.depth
   pub joins : s'.joins ≡ s.joins
   pub tabs : s'.tabs ≡ s.tabs
   pub quiet : s'.quiet ≡ true → s.quiet ≡ true
+  pub counts : Counts c s s'
 
 -- the same context, in which tilde-prefixes may begin from o' on
 abbrev pub turned : ℕ → Context → Context

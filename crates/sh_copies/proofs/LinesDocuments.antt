@@ -151,11 +151,11 @@ cut_of m b i l found =
       is = ap (λ n. bytes_eq (compared m (take n (drop l.start b))) m.delimiter) (sym e_is) ∙ found.is;
     }
 
-pub document_copied : (limit : ℕ) → ((n : ℕ) → PartsMove limit n) → (b : List ℕ) (m : Mark) (s : State) (u : Spot) (l : Span) (parts : List Part) → s.spot.joins ≡ false → s.spot.tabs ≡ false
+pub document_copied : (limit commands : ℕ) → ((n : ℕ) → PartsMove limit n) → (b : List ℕ) (m : Mark) (s : State) (u : Spot) (l : Span) (parts : List Part) → s.spot.joins ≡ false → s.spot.tabs ≡ false
     → IsMark m → end_line m b s.spot.at ≡ Some l → is_ambiguous m b s.spot.at l ≡ false
     → ReadsParts limit (take l.start b) (in_document_of m) 10 (in_document m s) u parts → keeps_lines b (not m.quoted) parts ≡ true
-    → DocumentOf limit m (text_of b (span s.spot.at l.start)) (text_of b l)
-document_copied limit moves b m s u l parts joins tabs mark found clear reads keeps =
+    → u.count ≡ s.spot.count + commands → DocumentOf limit m commands (text_of b (span s.spot.at l.start)) (text_of b l)
+document_copied limit commands moves b m s u l parts joins tabs mark found clear reads keeps counts =
     let i = s.spot.at in
     let v = text_of b (span i l.start) in
     let e = text_of b l in
@@ -187,5 +187,5 @@ document_copied limit moves b m s u l parts joins tabs mark found clear reads ke
           let some = length-append e (10 ∷ rest) in
           let body = body_moves (moves (l.start + 1)) b b' v m (in_document m s) (body_spot m j n) u l.start (j + length v) parts (omega arith) refl back (front b' rest j here) refl refl
           (sym (ap (λ t. t || m.strip) tabs)) (λ q. absurd (true≢false (sym q))) (omega arith) (omega arith) (omega arith) reads keeps in
-          (body.u, body.parts, body.reads, body.keeps);
+          (body.u, body.parts, body.reads, body.keeps, (let k = body.counts in omega arith));
     }

@@ -3,7 +3,7 @@ use Rattle.std.proofs.Common.{◌≡◌, ℕ, ◌+◌, ◌<◌, ◌≤◌, List,
 use Rattle.std.proofs.lemmas.List.{drop-drop, drop-append-le}
 use Rattle.sh_tree.specs.standard.language.States.{Spot, to, deeper, behind}
 use Rattle.sh_copies.proofs.AlikeBytes.{Alike}
-use Rattle.sh_copies.proofs.Copies.{Copied, Place, Moved, limit_of}
+use Rattle.sh_copies.proofs.Copies.{Copied, Place, Counts, Moved, limit_of}
 
 -- the same text, or the same up to a byte that closes its context
 abbrev pub Near : List ℕ → List ℕ → Type 0
@@ -47,10 +47,10 @@ module _ {b b' : List ℕ} (c : Copied b b') where
   as_far n p e e' = record { by = p.by + n; at = (let k = p.at in omega arith); at' = (let k = p.at' in omega arith) }
 
   pub moved_to : {i i' : ℕ} {s s' : Spot} → Moved c s s' → Place c i i' → Moved c (to i s) (to i' s')
-  moved_to m p = record { place = p; depth = m.depth; joins = m.joins; tabs = m.tabs; quiet = m.quiet }
+  moved_to m p = record { place = p; depth = m.depth; joins = m.joins; tabs = m.tabs; quiet = m.quiet; counts = m.counts }
 
   pub moved_deeper : {i i' : ℕ} {s s' : Spot} → Moved c s s' → Place c i i' → Moved c (deeper i s) (deeper i' s')
-  moved_deeper m p = record { place = p; depth = ap (λ n. n + 1) m.depth; joins = m.joins; tabs = m.tabs; quiet = m.quiet }
+  moved_deeper m p = record { place = p; depth = ap (λ n. n + 1) m.depth; joins = m.joins; tabs = m.tabs; quiet = m.quiet; counts = m.counts }
 
-  pub moved_behind : {i i' : ℕ} {s s' : Spot} (u u' : Spot) → Moved c s s' → Place c i i' → Moved c (behind i u s) (behind i' u' s')
-  moved_behind u u' m p = record { place = p; depth = m.depth; joins = m.joins; tabs = m.tabs; quiet = m.quiet }
+  pub moved_behind : {i i' : ℕ} {s s' : Spot} (u u' : Spot) → Counts c u u' → Moved c s s' → Place c i i' → Moved c (behind i u s) (behind i' u' s')
+  moved_behind u u' k m p = record { place = p; depth = m.depth; joins = m.joins; tabs = m.tabs; quiet = m.quiet; counts = k }

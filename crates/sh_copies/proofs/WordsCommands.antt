@@ -16,7 +16,7 @@ use Rattle.sh_tree.specs.standard.language.States.{Spot, deeper}
 use Rattle.sh_tree.specs.standard.language.Substitutions.{no_backquote, backquote_end, commands_text, closes, removes_no_backslash, has_removed_backslash}
 use Rattle.sh_reads.proofs.MoveLemmas.{blanks_move}
 use Rattle.sh_copies.proofs.AlikeBytes.{by_bool, run_yes, run_no, run_inside}
-use Rattle.sh_copies.proofs.Copies.{Copied, limit_of, Place, Moved, ScriptsMove}
+use Rattle.sh_copies.proofs.Copies.{Copied, limit_of, Place, Counts, Moved, ScriptsMove}
 use Rattle.sh_copies.proofs.Forward.{script_forward}
 use Rattle.sh_copies.proofs.Places.{left, as_far, moved_deeper}
 use Rattle.sh_copies.proofs.WordsTokens.{near_first}
@@ -35,17 +35,19 @@ pub record FoundCommands (limit : ℕ) {b b' : List ℕ} (c : Copied b b') (styl
   pub to : Spot
   pub tree : Script
   pub place : Place c u.at to.at
+  pub counts : Counts c u to
   pub keeps : removes_no_backslash style quoted b' e' ≡ true
   pub reads : ReadsScript limit (commands_text style b' e') (deeper (blanks s'.joins (commands_text style b' e') e') s') to tree
   pub closed : closes style (commands_text style b' e') to.at ≡ true
 
 -- commands found between backquotes, and what closes them there
-pub record FoundBetween (limit : ℕ) (b' : List ℕ) (quoted : Bool) (e e' : ℕ) (s' u : Spot) : Type 0 where
+pub record FoundBetween (limit : ℕ) (b' : List ℕ) (quoted : Bool) (e e' : ℕ) (s s' u : Spot) : Type 0 where
   pub to : Spot
   pub tree : Script
   pub by : ℕ
   pub at : u.at ≡ e + by
   pub at' : to.at ≡ e' + by
+  pub counts : to.count + s.count ≡ u.count + s'.count
   pub keeps : removes_no_backslash Backquote quoted b' e' ≡ true
   pub reads : ReadsScript limit (commands_text Backquote b' e') (deeper (blanks s'.joins (commands_text Backquote b' e') e') s') to tree
   pub closed : closes Backquote (commands_text Backquote b' e') to.at ≡ true
@@ -136,23 +138,23 @@ module _ {limit n : ℕ} (scripts : ScriptsMove limit n) where
   unfolding is_closed commands_text closes removes_no_backslash
   parenthesis_move {b} {b'} c quoted m q f i h size within =
       let k = scripts.script c (moved_deeper c m q) i (omega arith) (omega arith) (inr h) in
-      record { to = k.to; tree = k.tree; place = k.moved.place; keeps = refl; reads = k.reads; closed = near_first c (λ c. c == 41) k.moved.place within ∙ h }
+      record { to = k.to; tree = k.tree; place = k.moved.place; counts = k.moved.counts; keeps = refl; reads = k.reads; closed = near_first c (λ c. c == 41) k.moved.place within ∙ h }
 
   -- between backquotes, whatever follows them
   pub backquotes_move : (b b' : List ℕ) (s s' : Spot) {u : Spot} {t : Script} (e e' : ℕ) (quoted : Bool) (w rest rest' : List ℕ) → drop e b ≡ w ++ rest → drop e' b' ≡ w ++ rest'
       → s'.depth ≡ s.depth → s'.joins ≡ s.joins → s'.tabs ≡ s.tabs → (s'.quiet ≡ true → s.quiet ≡ true) → s.at ≤ e
       → removes_no_backslash Backquote quoted b e ≡ true → ReadsScript limit (commands_text Backquote b e) (deeper (blanks s.joins (commands_text Backquote b e) e) s) u t
       → closes Backquote (commands_text Backquote b e) u.at ≡ true → u.at + 1 < s.at + suc n → u.at + 1 ≤ e + length w
-      → FoundBetween limit b' quoted e e' s' u
+      → FoundBetween limit b' quoted e e' s s' u
   unfolding commands_text closes removes_no_backslash
   backquotes_move b b' s s' {u} e e' quoted w rest rest' there here depth joins tabs quiet f k i h size within =
       let forward = script_forward i in
       let blank = blanks_move s.joins (take (backquote_end b e) b) e in
       let text = between b b' e e' w rest rest' there here u.at (omega arith) within h in
       let long = text.long in
-      let copy : Copied (take (backquote_end b e) b) (take (backquote_end b' e') b') = record { from = e; into = e'; w = text.w; rest = []; rest' = []; there = text.there; here = text.here; edge = inl refl } in
+      let copy : Copied (take (backquote_end b e) b) (take (backquote_end b' e') b') = record { from = e; into = e'; w = text.w; rest = []; rest' = []; there = text.there; here = text.here; edge = inl refl; began = s.count; began' = s'.count } in
       let first : Place copy e e' = record { by = 0; at = omega arith; at' = omega arith } in
-      let inner : Moved copy (deeper e s) (deeper e' s') = record { place = first; depth = ap (λ d. d + 1) depth; joins = joins; tabs = tabs; quiet = quiet } in
+      let inner : Moved copy (deeper e s) (deeper e' s') = record { place = first; depth = ap (λ d. d + 1) depth; joins = joins; tabs = tabs; quiet = quiet; counts = omega arith } in
       let found = scripts.script copy inner i (omega arith) (omega arith) (inl refl) in
       let l = left copy found.moved.place (omega arith) in
       record {
@@ -161,6 +163,7 @@ module _ {limit n : ℕ} (scripts : ScriptsMove limit n) where
         by = found.moved.place.by;
         at = found.moved.place.at;
         at' = found.moved.place.at';
+        counts = found.moved.counts;
         keeps = ap (λ t. not (has_removed_backslash quoted t)) (text.here ∙ sym text.there) ∙ k;
         reads = found.reads;
         closed = ap is_last_backquote (l.here ∙ sym l.there) ∙ h;
@@ -175,4 +178,4 @@ module _ {limit n : ℕ} (scripts : ScriptsMove limit n) where
   commands_move {b} {b'} c {s} {s'} {u} {e = e} {e' = e'} Backquote quoted m q f k i h size within =
       let l = left c q (let forward = script_forward i in let blank = blanks_move s.joins (take (backquote_end b e) b) e in omega arith) in
       let found = backquotes_move b b' s s' e e' quoted l.w c.rest c.rest' l.there l.here m.depth m.joins m.tabs m.quiet f k i h size (let long = l.long in omega arith) in
-      record { to = found.to; tree = found.tree; place = as_far c found.by q found.at found.at'; keeps = found.keeps; reads = found.reads; closed = found.closed }
+      record { to = found.to; tree = found.tree; place = as_far c found.by q found.at found.at'; counts = (let k = found.counts in let k' = m.counts in omega arith); keeps = found.keeps; reads = found.reads; closed = found.closed }

@@ -128,32 +128,33 @@ word_text b s u f h =
     let far : s + (u - s) ≡ u = omega arith in
     (omega arith, sym (take-append-drop (u - s) (drop s b)) ∙ ap (λ t. text_of b (span s u) ++ t) (drop-drop (u - s) s b ∙ ap (λ i. drop i b) far))
 
-word_there : (limit : ℕ) (b b' : List ℕ) (role : Role) (s s' u : Spot) (ps : List Part) (text rest : List ℕ) → s.joins ≡ false → s.tabs ≡ false → ReadsParts limit b (context_of role b s.at) 0 s u ps
+word_there : (limit commands : ℕ) (b b' : List ℕ) (role : Role) (s s' u : Spot) (ps : List Part) (text rest : List ℕ) → s.joins ≡ false → s.tabs ≡ false → u.count ≡ s.count + commands → ReadsParts limit b (context_of role b s.at) 0 s u ps
     → s.at + length text ≡ u.at → drop s.at b ≡ text ++ drop u.at b → words.ends_joined (drop u.at b) ≡ true → drop s'.at b' ≡ text ++ rest → IsBehindWord rest → IsWordSpot s.depth s.quiet s'
-    → (n : ℕ) × (parts : List Part)
-    × ReadsWord limit b' (context_of role b' s'.at) s' (counted (s'.at + length text) n s') (tree.word s'.at (s'.at + length text) parts)
+    → (parts : List Part)
+    × ReadsWord limit b' (context_of role b' s'.at) s' (counted (s'.at + length text) (s'.count + commands) s') (tree.word s'.at (s'.at + length text) parts)
     × (form_of b' (tree.word s'.at (s'.at + length text) parts) ≡ form_of b (tree.word s.at u.at ps))
 unfolding keeps_lines is_quoted_word
-word_there limit b b' role s s' u ps text rest joins tabs i long there ends here behind spot =
+word_there limit commands b b' role s s' u ps text rest joins tabs counts i long there ends here behind spot =
     let c = same_contexts role b b' text (drop u.at b) rest s.at s'.at there here (edge_first (drop u.at b) ends) (break_first rest behind.ends) in
     let i' = subst (λ x. ReadsParts limit b x 0 s u ps) c.there i in
     let below = all_move limit u.at in
-    let found = outer_parts b b' s.at s'.at (s.at + c.far) (s'.at + c.far) c.colons c.fields true (drop u.at b) rest ends behind.ends (λ n. equal_far s.at s'.at c.far n)
+    let found = outer_parts b b' s.at s'.at s.count s'.count (s.at + c.far) (s'.at + c.far) c.colons c.fields true (drop u.at b) rest ends behind.ends (λ n. equal_far s.at s'.at c.far n)
     (expressions_move below.expansions) (scripts_move below.words below.parts) text
     (record {
       there = there;
       here = here;
       long = long;
-      along = record { by = 0; at = omega arith; at' = omega arith; depth = spot.depth_is; joins = spot.joins ∙ sym joins; tabs = spot.tabs ∙ sym tabs; quiet = spot.quiet_only };
+      along = record { by = 0; at = omega arith; at' = omega arith; depth = spot.depth_is; joins = spot.joins ∙ sym joins; tabs = spot.tabs ∙ sym tabs; quiet = spot.quiet_only; counts = omega arith };
     })
     i' (omega arith) in
     let end : found.to.at ≡ s'.at + length text = (let a = found.along.at in let a' = found.along.at' in omega arith) in
-    let to : found.to ≡ counted (s'.at + length text) found.to.count s' = parts_keep found.reads ∙ ap (λ j. counted j found.to.count s') end in
+    let count : found.to.count ≡ s'.count + commands = (let k = found.along.counts in omega arith) in
+    let to : found.to ≡ counted (s'.at + length text) (s'.count + commands) s' =
+    parts_keep found.reads ∙ ap (λ j. counted j found.to.count s') end ∙ ap (λ n. counted (s'.at + length text) n s') count in
     let behind_it : drop found.to.at b' ≡ rest = ap (λ j. drop j b') end ∙ sym (drop-drop (length text) s'.at b') ∙ ap (drop (length text)) here ∙ drop-append_seam text rest in
     let location = no_location b' s'.at found.to.at rest behind_it behind.ends in
     let whole : ReadsWord limit b' (outer (s'.at + c.far) c.colons c.fields true) s' found.to (tree.word s'.at found.to.at found.tree) =
     reads.whole_word found.reads (ap (λ t. not c.colons && t) location ∙ and-false (not c.colons)) (ap (λ j. keeps_lines b' j found.tree) spot.joins) in (
-      found.to.count,
       found.tree,
       subst (λ e. ReadsWord limit b' (context_of role b' s'.at) s' e (tree.word s'.at (s'.at + length text) found.tree)) to
           (subst (λ j. ReadsWord limit b' (context_of role b' s'.at) s' found.to (tree.word s'.at j found.tree)) end
@@ -161,13 +162,13 @@ word_there limit b b' role s s' u ps text rest joins tabs i long there ends here
       rw (found.keeps.text, found.keeps.quotes, found.keeps.dollar_quotes) refl,
     )
 
-pub word_copied : (limit : ℕ) (b : List ℕ) (role : Role) (s u : Spot) (w : Word) → s.joins ≡ false → s.tabs ≡ false → ReadsWord limit b (context_of role b s.at) s u w
-    → WordOf limit s.depth s.quiet role (form_of b w) (text_of b w.span)
-word_copied limit b role s u _ joins tabs (reads.whole_word {ps = ps} i h k) =
+pub word_copied : (limit commands : ℕ) (b : List ℕ) (role : Role) (s u : Spot) (w : Word) → s.joins ≡ false → s.tabs ≡ false → u.count ≡ s.count + commands
+    → ReadsWord limit b (context_of role b s.at) s u w → WordOf limit s.depth s.quiet role (form_of b w) commands (text_of b w.span)
+word_copied limit commands b role s u _ joins tabs counts (reads.whole_word {ps = ps} i h k) =
     let f = parts_forward i in
     let shape = same_contexts role b b (drop s.at b) [] [] s.at s.at (sym (append-nil (drop s.at b))) (sym (append-nil (drop s.at b))) nothing nothing in
     let i' = subst (λ x. ReadsParts limit b x 0 s u ps) shape.there i in
     let ends = parts_edge (s.at + shape.far) shape.colons shape.fields true i' in
     let inside : (u.at ≤ length b) ⊎ (u.at ≡ s.at) = ⊎_elim (λ within. inl (parts_inside i within).0) (λ same. inr same) (parts_end (s.at + shape.far) shape.colons shape.fields true i') in
     let text = word_text b s.at u.at f inside in
-    record { is_read = λ b' rest s' here behind spot. word_there limit b b' role s s' u ps (text_of b (span s.at u.at)) rest joins tabs i text.0 text.1 ends here behind spot }
+    record { is_read = λ b' rest s' here behind spot. word_there limit commands b b' role s s' u ps (text_of b (span s.at u.at)) rest joins tabs counts i text.0 text.1 ends here behind spot }

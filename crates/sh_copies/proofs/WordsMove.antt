@@ -223,7 +223,7 @@ module _ {limit n : ℕ} (expressions : ExpressionsMove limit n) (scripts : Scri
         (record {
           to = behind inside.to.at inside.to s';
           tree = part.Double (span s'.at inside.to.at) inside.tree;
-          moved = moved_behind c u inside.to m inside.moved.place;
+          moved = moved_behind c u inside.to inside.moved.counts m inside.moved.place;
           keeps = kept_double b b' (span s.at u.at) (span s'.at inside.to.at) inside.keeps;
           reads = r.double_quoted inside.reads;
         })
@@ -237,7 +237,7 @@ module _ {limit n : ℕ} (expressions : ExpressionsMove limit n) (scripts : Scri
         (record {
           to = behind inside.to.at inside.to s';
           tree = tree.param s'.at inside.to.at k.0 (operator.Use a colon (tree.word e' (inside.to.at - 1) inside.tree));
-          moved = moved_behind c u inside.to m inside.moved.place;
+          moved = moved_behind c u inside.to inside.moved.counts m inside.moved.place;
           keeps = kept_use b b' s.at s'.at u.at inside.to.at p k.0 a colon e e' (u.at - 1) (inside.to.at - 1) inside.keeps;
           reads = r.use_word (less_deep s.depth s'.depth limit m.depth d) inside.reads;
         })
@@ -248,7 +248,7 @@ module _ {limit n : ℕ} (expressions : ExpressionsMove limit n) (scripts : Scri
         (record {
           to = behind inside.to.at inside.to s';
           tree = tree.param s'.at inside.to.at k.0 (operator.Remove w (tree.word e' (inside.to.at - 1) inside.tree));
-          moved = moved_behind c u inside.to m inside.moved.place;
+          moved = moved_behind c u inside.to inside.moved.counts m inside.moved.place;
           keeps = kept_removal b b' s.at s'.at u.at inside.to.at p k.0 w e e' (u.at - 1) (inside.to.at - 1) inside.keeps;
           reads = r.removal (less_deep s.depth s'.depth limit m.depth d) inside.reads;
         })
@@ -261,7 +261,7 @@ module _ {limit n : ℕ} (expressions : ExpressionsMove limit n) (scripts : Scri
         (record {
           to = behind ((over b' inside.to).at + 1) inside.to s';
           tree = part.Arith (span s'.at ((over b' inside.to).at + 1)) inside.tree;
-          moved = moved_behind c u inside.to m (further c 1 t.behind.place);
+          moved = moved_behind c u inside.to inside.moved.counts m (further c 1 t.behind.place);
           keeps = kept_arith b b' (span s.at ((over b u).at + 1)) (span s'.at ((over b' inside.to).at + 1)) a inside.tree inside.keeps;
           reads = r.arithmetic (less_deep s.depth s'.depth limit m.depth d) inside.reads (t.is ∙ h) (closed_same b b' _ _ closed k);
         })
@@ -271,7 +271,7 @@ module _ {limit n : ℕ} (expressions : ExpressionsMove limit n) (scripts : Scri
         (record {
           to = behind (inside.to.at + 1) inside.to s';
           tree = part.Command y (span s'.at (inside.to.at + 1)) inside.tree;
-          moved = moved_behind c u inside.to m (further c 1 inside.place);
+          moved = moved_behind c u inside.to inside.counts m (further c 1 inside.place);
           keeps = kept_command b b' (span s.at (u.at + 1)) (span s'.at (inside.to.at + 1)) y t inside.tree;
           reads = r.substitution (less_deep s.depth s'.depth limit m.depth d) inside.keeps inside.reads inside.closed;
         })

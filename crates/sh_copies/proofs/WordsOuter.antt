@@ -91,8 +91,9 @@ closing_open g k h = absurd (true≢false (sym h))
 whole_not_open : (g : Sign) → is_part g ≡ true → is_open g ≡ false → is_whole g ≡ true
 whole_not_open g h k = and_from (is_part g) (not (is_open g)) h (ap not k)
 
--- a whole word of b between p and its end, before r, and of b' from q on, before r'
-module _ (b b' : List ℕ) (p q o o' : ℕ) (colons fields backquotes : Bool) (r r' : List ℕ) (ends : words.ends_joined r ≡ true) (edge : is_first breaks r' ≡ true)
+-- A whole word of b between p and its end, before r, and of b' from q on, before r'. So many
+-- commands have begun before it in b, and so many in b'.
+module _ (b b' : List ℕ) (p q began began' o o' : ℕ) (colons fields backquotes : Bool) (r r' : List ℕ) (ends : words.ends_joined r ≡ true) (edge : is_first breaks r' ≡ true)
     (turns : (n : ℕ) → (q + n == o') ≡ (p + n == o)) where
   abbrev x : Context
   x = outer o colons fields backquotes
@@ -109,6 +110,7 @@ module _ (b b' : List ℕ) (p q o o' : ℕ) (colons fields backquotes : Bool) (r
     pub joins : s'.joins ≡ s.joins
     pub tabs : s'.tabs ≡ s.tabs
     pub quiet : s'.quiet ≡ true → s.quiet ≡ true
+    pub counts : s'.count + began ≡ s.count + began'
 
   -- what is left of the word, up to u
   pub record Rest (s s' u : Spot) (v : List ℕ) : Type 0 where
@@ -239,8 +241,8 @@ module _ (b b' : List ℕ) (p q o o' : ℕ) (colons fields backquotes : Bool) (r
     keeps : KeptPart b b' z tree
     reads : ReadsPart limit b' y g s' e to tree
 
-  moved_along : {s s' w w' : Spot} (by : ℕ) → Along s s' → w.at ≡ s.at + by → w'.at ≡ s'.at + by → w'.depth ≡ w.depth → w'.joins ≡ w.joins → w'.tabs ≡ w.tabs → (w'.quiet ≡ true → w.quiet ≡ true) → Along w w'
-  moved_along by a e e' depth joins tabs quiet = record { by = a.by + by; at = (let k = a.at in omega arith); at' = (let k = a.at' in omega arith); depth = depth; joins = joins; tabs = tabs; quiet = quiet }
+  moved_along : {s s' w w' : Spot} (by : ℕ) → Along s s' → w.at ≡ s.at + by → w'.at ≡ s'.at + by → w'.depth ≡ w.depth → w'.joins ≡ w.joins → w'.tabs ≡ w.tabs → (w'.quiet ≡ true → w.quiet ≡ true) → w'.count + began ≡ w.count + began' → Along w w'
+  moved_along by a e e' depth joins tabs quiet counts = record { by = a.by + by; at = (let k = a.at in omega arith); at' = (let k = a.at' in omega arith); depth = depth; joins = joins; tabs = tabs; quiet = quiet; counts = counts }
 
   module _ {limit m : ℕ} (expressions : ExpressionsMove limit m) (scripts : ScriptsMove limit m) where
     flat_there : {s s' w u : Spot} {g : Sign} {z : Part} (v : List ℕ) (e e' n : ℕ) (g' : Sign) → Rest s s' u v → placeless g' ≡ placeless g → e ≡ s.at + n → e' ≡ s'.at + n → n ≤ length v → is_flat g ≡ true
@@ -252,7 +254,7 @@ module _ (b b' : List ℕ) (p q o o' : ℕ) (colons fields backquotes : Bool) (r
         let f = flat_move b' y s' e' g' flat same text i in
         let a = rest.along in
         subst (λ k. OuterPart limit k z g' s' e') (sym f.0)
-        (record { to = to e' s'; tree = f.1.tree; along = moved_along n a end end' a.depth a.joins a.tabs a.quiet; keeps = f.1.keeps; reads = f.1.reads })
+        (record { to = to e' s'; tree = f.1.tree; along = moved_along n a end end' a.depth a.joins a.tabs a.quiet a.counts; keeps = f.1.keeps; reads = f.1.reads })
 
     nested_there : {s s' w u : Spot} {g : Sign} {z : Part} (v : List ℕ) (e e' n : ℕ) (g' : Sign) → Rest s s' u v → placeless g' ≡ placeless g → e ≡ s.at + n → e' ≡ s'.at + n → w.at ≤ u.at → closing g ≡ 1
         → ReadsPart limit b x g s e w z → w.at < s.at + suc m → OuterPart limit w z g' s' e'
@@ -275,14 +277,16 @@ module _ (b b' : List ℕ) (p q o o' : ℕ) (colons fields backquotes : Bool) (r
           there = rest.there ∙ text r;
           here = rest.here ∙ text r';
           edge = inr (record { c = cut.c; r = cut.rest ++ r; r' = cut.rest ++ r'; closes = cut.closes; there = refl; here = refl });
+          began = began;
+          began' = began';
         } in
-        let moved : Moved c s s' = record { place = record { by = 0; at = omega arith; at' = omega arith }; depth = a.depth; joins = a.joins; tabs = a.tabs; quiet = a.quiet } in
+        let moved : Moved c s s' = record { place = record { by = 0; at = omega arith; at' = omega arith }; depth = a.depth; joins = a.joins; tabs = a.tabs; quiet = a.quiet; counts = a.counts } in
         let turns' : Turns c x o' =
         (λ outside n. (let h : s'.at + n ≡ q + (a.by + n) = (let z = a.at' in omega arith) in let h' : s.at + n ≡ p + (a.by + n) = (let z = a.at in omega arith) in
         ap (λ i. i == o') h ∙ turns (a.by + n) ∙ sym (ap (λ i. i == o) h'))) in
         let place : Place c e e' = record { by = n; at = end; at' = end' } in
         let found = part_move expressions scripts c moved turns' place (omega arith) g' same i size (omega arith) in
-        record { to = found.to; tree = found.tree; along = moved_along found.moved.place.by a found.moved.place.at found.moved.place.at' found.moved.depth found.moved.joins found.moved.tabs found.moved.quiet; keeps = found.keeps; reads = found.reads }
+        record { to = found.to; tree = found.tree; along = moved_along found.moved.place.by a found.moved.place.at found.moved.place.at' found.moved.depth found.moved.joins found.moved.tabs found.moved.quiet found.moved.counts; keeps = found.keeps; reads = found.reads }
 
     -- between backquotes
     back_there : {s s' w u : Spot} {g : Sign} {z : Part} (v : List ℕ) (e e' n : ℕ) (g' : Sign) → Rest s s' u v → placeless g' ≡ placeless g → e ≡ s.at + n → e' ≡ s'.at + n → w.at ≤ u.at
@@ -302,7 +306,7 @@ module _ (b b' : List ℕ) (p q o o' : ℕ) (colons fields backquotes : Bool) (r
         record {
           to = behind (found.to.at + 1) found.to s';
           tree = part.Command Backquote (span s'.at (found.to.at + 1)) found.tree;
-          along = moved_along (n + found.by + 1) a (omega arith) (omega arith) a.depth a.joins a.tabs a.quiet;
+          along = moved_along (n + found.by + 1) a (omega arith) (omega arith) a.depth a.joins a.tabs a.quiet (let k = found.counts in let k' = a.counts in omega arith);
           keeps = kept_command b b' (span s.at (u.at + 1)) (span s'.at (found.to.at + 1)) Backquote t found.tree;
           reads = subst (λ k. ReadsPart limit b' y k s' e' (behind (found.to.at + 1) found.to s') (part.Command Backquote (span s'.at (found.to.at + 1)) found.tree)) (sym is)
               (reads.substitution (less_deep s.depth s'.depth limit a.depth d) found.keeps found.reads found.closed);
@@ -357,7 +361,7 @@ module _ (b b' : List ℕ) (p q o o' : ℕ) (colons fields backquotes : Bool) (r
         let e : words.sign_of y prior s'.at (drop s'.at b') ≡ (sign.Stop, 0) = ap (words.sign_of y prior s'.at) (rest.here ∙ ap (λ v. v ++ r') none) ∙ break_stop prior s'.at r' edge in
         let a = rest.along in
         let end : after b' y prior s' ≡ s'.at + 0 = ap (λ f. s'.at + f.1) e in
-        record { to = to (after b' y prior s') s'; tree = []; along = moved_along 0 a stop end a.depth a.joins a.tabs a.quiet; keeps = kept_none b b'; reads = reads.stop (ap (λ f. f.0) e) }
+        record { to = to (after b' y prior s') s'; tree = []; along = moved_along 0 a stop end a.depth a.joins a.tabs a.quiet a.counts; keeps = kept_none b b'; reads = reads.stop (ap (λ f. f.0) e) }
     outer_parts v rest (reads.tabs {prior = prior} {s = s} h i) size = absurd (true≢false (sym (tabs_strip b x prior s h)))
     outer_parts {s' = s'} {u = u} v rest (reads.more {prior = prior} {s = s} {v = w} {g = g} h i j) size =
         let k = token_moves b x prior s.at in

@@ -68,11 +68,11 @@ abbrev pub counted : ℕ → ℕ → Spot → Spot
 counted i n s = record s { at = i; count = n }
 
 -- After any bytes and before what may follow a word, the text is a whole word of this role
--- and form.
-pub record WordOf (limit depth : ℕ) (quiet : Bool) (role : Role) (form : Form) (text : List ℕ) : Type 0 where
+-- and form. So many commands begin in it.
+pub record WordOf (limit depth : ℕ) (quiet : Bool) (role : Role) (form : Form) (commands : ℕ) (text : List ℕ) : Type 0 where
   pub is_read : (b rest : List ℕ) (s : Spot) → drop s.at b ≡ text ++ rest → IsBehindWord rest → IsWordSpot depth quiet s
-      → (n : ℕ) × (parts : List Part)
-      × ReadsWord limit b (context_of role b s.at) s (counted (s.at + length text) n s) (tree.word s.at (s.at + length text) parts)
+      → (parts : List Part)
+      × ReadsWord limit b (context_of role b s.at) s (counted (s.at + length text) (s.count + commands) s) (tree.word s.at (s.at + length text) parts)
       × (form_of b (tree.word s.at (s.at + length text) parts) ≡ form)
 
 -- no delimiter of tokens, nor the first byte of a comment
@@ -98,8 +98,8 @@ abbrev pub body_spot : Mark → ℕ → ℕ → Spot
 body_spot m i n = record { at = i; count = n; depth = m.depth; quiet = false; joins = not m.quoted; tabs = m.strip }
 
 -- After any bytes and before a newline, the text and the end line are the body of the
--- here-document and the line that ends it.
-pub record DocumentOf (limit : ℕ) (mark : Mark) (text end : List ℕ) : Type 0 where
+-- here-document and the line that ends it. So many commands begin in the body.
+pub record DocumentOf (limit : ℕ) (mark : Mark) (commands : ℕ) (text end : List ℕ) : Type 0 where
   pub ends : (b rest : List ℕ) (i : ℕ) → drop i b ≡ text ++ (end ++ 10 ∷ rest)
       → end_line mark b i ≡ Some (span (i + length text) (i + length text + length end))
   pub is_unambiguous : (b rest : List ℕ) (i : ℕ) → drop i b ≡ text ++ (end ++ 10 ∷ rest)
@@ -107,7 +107,7 @@ pub record DocumentOf (limit : ℕ) (mark : Mark) (text end : List ℕ) : Type 0
   pub is_read : (b rest : List ℕ) (i n : ℕ) → drop i b ≡ text ++ (end ++ 10 ∷ rest)
       → (u : Spot) × (parts : List Part)
       × ReadsParts limit (take (i + length text) b) (in_document_of mark) 10 (body_spot mark i n) u parts
-      × (keeps_lines b (not mark.quoted) parts ≡ true)
+      × (keeps_lines b (not mark.quoted) parts ≡ true) × (u.count ≡ n + commands)
 
 -- an unquoted delimiter has no backslash
 abbrev pub IsMark : Mark → Type 0
@@ -115,16 +115,16 @@ IsMark m = m.quoted ≡ false → list_any is_backslash m.delimiter ≡ false
 
 -- What holds of each word and here-document that a reading has, outside of here-documents.
 pub record WordsAreCopied : Type 0 where
-  pub words : (limit : ℕ) (b : List ℕ) (role : Role) (s u : Spot) (w : Word) → s.joins ≡ false → s.tabs ≡ false
-      → ReadsWord limit b (context_of role b s.at) s u w
-      → WordOf limit s.depth s.quiet role (form_of b w) (text_of b w.span)
+  pub words : (limit commands : ℕ) (b : List ℕ) (role : Role) (s u : Spot) (w : Word) → s.joins ≡ false → s.tabs ≡ false
+      → u.count ≡ s.count + commands → ReadsWord limit b (context_of role b s.at) s u w
+      → WordOf limit s.depth s.quiet role (form_of b w) commands (text_of b w.span)
   pub tokens : (limit : ℕ) (b : List ℕ) (role : Role) (stage : Stage) (s u : Spot) (w : Word) → gap_length (drop s.at b) ≡ 0
       → lead_at b stage s.at ≡ lead.Word → ReadsWord limit b (context_of role b s.at) s u w
       → TokenOf stage (text_of b w.span)
   pub marks : (limit depth : ℕ) (strip : Bool) (b : List ℕ) (s u : Spot) (w : Word)
       → ReadsWord limit b (in_unsplit s.at) s u w → is_delimiter b w ≡ true
       → IsMark (record { strip = strip; quoted = is_quoted_word w; delimiter = delimiter_of b w; depth = depth })
-  pub documents : (limit : ℕ) (b : List ℕ) (m : Mark) (s : State) (u : Spot) (l : Span) (parts : List Part) → s.spot.joins ≡ false → s.spot.tabs ≡ false
+  pub documents : (limit commands : ℕ) (b : List ℕ) (m : Mark) (s : State) (u : Spot) (l : Span) (parts : List Part) → s.spot.joins ≡ false → s.spot.tabs ≡ false
       → IsMark m → end_line m b s.spot.at ≡ Some l → is_ambiguous m b s.spot.at l ≡ false
       → ReadsParts limit (take l.start b) (in_document_of m) 10 (in_document m s) u parts → keeps_lines b (not m.quoted) parts ≡ true
-      → DocumentOf limit m (text_of b (span s.spot.at l.start)) (text_of b l)
+      → u.count ≡ s.spot.count + commands → DocumentOf limit m commands (text_of b (span s.spot.at l.start)) (text_of b l)

@@ -1,5 +1,5 @@
 -- A printed `case` command is read, given that the lists in it are.
-use Rattle.std.proofs.Common.{◌≡◌, ℕ, ◌+◌, ◌<◌, Bool, false, if◌then◌else◌, Some, List, [], ◌∷◌, ◌++◌, length, drop, map, codes, refl, sym, ap, subst, ◌∙◌, append_assoc, append-nil}
+use Rattle.std.proofs.Common.{◌≡◌, ℕ, ◌+◌, ◌<◌, Bool, false, if◌then◌else◌, Some, List, [], ◌∷◌, ◌++◌, length, drop, map, codes, refl, sym, ap, subst, ◌∙◌, append_assoc, append-nil, arith}
 use Rattle.std.specs.List.{flat_map}
 use Rattle.sh_copies.specs.Copied.{Unsplit, Form, context_of, TokenOf, IsBehindWord}
 use Rattle.sh_tree.specs.declared.tree.Clause.{Clause}
@@ -50,18 +50,18 @@ module _ (b : List ℕ) where
   unfolding is_first
   close_word cs = record { ends = refl; opens_nothing = ap (is_first is_parenthesis) (front_none 41 cs refl refl refl) }
 
-  barred : {limit k : ℕ} {ws : List Text} → PrintablePatterns limit k ws → flat_map (λ u. codes " | " ++ u) ws ≡ codes " | " ++ patterns_text ws
+  barred : {limit k m : ℕ} {ws : List Text} → PrintablePatterns limit k m ws → flat_map (λ u. codes " | " ++ u) ws ≡ codes " | " ++ patterns_text ws
   barred (p.last_pattern {w = w} token printable) = append_assoc (codes " | ") w []
   barred (p.more_patterns {w = w} {ws = ws} token printable more) = append_assoc (codes " | ") w (flat_map (λ u. codes " | " ++ u) ws)
 
   -- one pattern and those after it
-  barred_text : {limit k : ℕ} {ws : List Text} (w : Text) → PrintablePatterns limit k ws → (cs : List ℕ) → patterns_text (w ∷ ws) ++ cs ≡ w ++ (32 ∷ 124 ∷ 32 ∷ (patterns_text ws ++ cs))
+  barred_text : {limit k m : ℕ} {ws : List Text} (w : Text) → PrintablePatterns limit k m ws → (cs : List ℕ) → patterns_text (w ∷ ws) ++ cs ≡ w ++ (32 ∷ 124 ∷ 32 ∷ (patterns_text ws ++ cs))
   barred_text {ws = ws} w more cs = append_assoc w (flat_map (λ u. codes " | " ++ u) ws) cs ∙ ap (λ t. w ++ (t ++ cs)) (barred more)
 
   last_text : (w : Text) (cs : List ℕ) → patterns_text (w ∷ []) ++ cs ≡ w ++ cs
   last_text w cs = ap (λ t. t ++ cs) (append-nil w)
 
-  patterns_start : {limit k : ℕ} {ws : List Text} → PrintablePatterns limit k ws → (cs : List ℕ) → front (patterns_text ws ++ 41 ∷ cs) ≡ patterns_text ws ++ 41 ∷ cs
+  patterns_start : {limit k m : ℕ} {ws : List Text} → PrintablePatterns limit k m ws → (cs : List ℕ) → front (patterns_text ws ++ 41 ∷ cs) ≡ patterns_text ws ++ 41 ∷ cs
   patterns_start (p.last_pattern {w = w} token printable) cs =
       let same = last_text w (41 ∷ cs) in
       ap front same ∙ (token_starts w (41 ∷ cs) token (close_word cs)).front_is ∙ sym same
@@ -69,42 +69,45 @@ module _ (b : List ℕ) where
       let same = barred_text w more (41 ∷ cs) in
       ap front same ∙ (token_starts w (32 ∷ 124 ∷ 32 ∷ (patterns_text ws ++ 41 ∷ cs)) token (bar_word (patterns_text ws ++ 41 ∷ cs))).front_is ∙ sym same
 
-  record PrintedPatterns (limit i n k : ℕ) (closed : Bool) (ds : List Document) (ws : List Text) (cs : List ℕ) : Type 0 where
+  record PrintedPatterns (limit m i n k : ℕ) (closed : Bool) (ds : List Document) (ws : List Text) (cs : List ℕ) : Type 0 where
     at : ℕ
     count : ℕ
     behind : drop at b ≡ 41 ∷ cs
+    total : count ≡ n + m
     words : List Word
     reads : ReadsPatterns limit b (place i n k closed [] ds) (place at count k closed [] ds) words
     same : map (word_of b) words ≡ ws
 
-  patterns_print : {limit k : ℕ} {ws : List Text} → PrintablePatterns limit k ws → (i n : ℕ) (closed : Bool) (ds : List Document) (cs : List ℕ) → drop i b ≡ patterns_text ws ++ 41 ∷ cs
-      → PrintedPatterns limit i n k closed ds ws cs
+  patterns_print : {limit k m : ℕ} {ws : List Text} → PrintablePatterns limit k m ws → (i n : ℕ) (closed : Bool) (ds : List Document) (cs : List ℕ) → drop i b ≡ patterns_text ws ++ 41 ∷ cs
+      → PrintedPatterns limit m i n k closed ds ws cs
   unfolding context_of
-  patterns_print {limit = limit} {k = k} (p.last_pattern {w = w} {form = form} token printable) i n closed ds cs e =
+  patterns_print {limit = limit} {k = k} (p.last_pattern {m = m} {w = w} {form = form} token printable) i n closed ds cs e =
       let e1 = e ∙ last_text w (41 ∷ cs) in
       let one = word_print b limit i n k closed [] ds false Unsplit form w (41 ∷ cs) printable no_waits e1 (close_word cs) in
       let j = blanks false b (i + length w) in
       let here : drop j b ≡ 41 ∷ cs = one.behind ∙ front_none 41 cs refl refl refl in
       record {
         at = j;
-        count = one.count;
+        count = n + m;
         behind = here;
+        total = refl;
         words = tree.word i (i + length w) one.parts ∷ [];
         reads = r.last_pattern (ap is_word (token.is_lead b (41 ∷ cs) i e1 (close_word cs))) one.reads (lead_there b (Named false) j (41 ∷ cs) here ∙ closing_lead (Named false) cs);
         same = ap (λ t. t ∷ []) one.word_is;
       }
-  patterns_print {limit = limit} {k = k} (p.more_patterns {w = w} {ws = ws} {form = form} token printable more) i n closed ds cs e =
+  patterns_print {limit = limit} {k = k} (p.more_patterns {m = m} {w = w} {ws = ws} {form = form} token printable more) i n closed ds cs e =
       let later = patterns_text ws ++ 41 ∷ cs in
       let tail = 124 ∷ 32 ∷ later in
       let e1 = e ∙ barred_text w more (41 ∷ cs) in
       let one = word_print b limit i n k closed [] ds false Unsplit form w (32 ∷ tail) printable no_waits e1 (bar_word later) in
       let j = blanks false b (i + length w) in
       let here : drop j b ≡ tail = one.behind ∙ front_blank 32 tail refl ∙ front_none 124 (32 ∷ later) refl refl refl in
-      let others = patterns_print more (blanks false b (j + 1)) one.count closed ds cs (fronted b (j + 1) (32 ∷ later) (one_off b j here) ∙ front_blank 32 later refl ∙ patterns_start more cs) in
+      let others = patterns_print more (blanks false b (j + 1)) (n + m) closed ds cs (fronted b (j + 1) (32 ∷ later) (one_off b j here) ∙ front_blank 32 later refl ∙ patterns_start more cs) in
       record {
         at = others.at;
         count = others.count;
         behind = others.behind;
+        total = (let all = others.total in omega arith);
         words = tree.word i (i + length w) one.parts ∷ others.words;
         reads = r.more_patterns (ap is_word (token.is_lead b (32 ∷ tail) i e1 (bar_word later))) one.reads
             (lead_there b (Named false) j tail here ∙ bar_leads (Named false) (32 ∷ later) blank) others.reads;
@@ -113,7 +116,7 @@ module _ (b : List ℕ) where
 
   -- A newline, and a list or nothing
 
-  pub record PrintedSequence (limit i n k : ℕ) (closed : Bool) (ds : List Document) (items : bare.Items) (rest : List ℕ) : Type 0 where
+  pub record PrintedSequence (limit m i n k : ℕ) (closed : Bool) (ds : List Document) (items : bare.Items) (rest : List ℕ) : Type 0 where
     pub at : ℕ
     pub count : ℕ
     pub ended : Bool
@@ -121,13 +124,14 @@ module _ (b : List ℕ) where
     pub met : List bare.Document
     pub kept : so_far b bodies [] ≡ so_far b ds [] ++ met
     pub behind : drop at b ≡ front rest
+    pub total : count ≡ n + m
     pub reads : (body : ℕ → Document) → Fits b body (length (so_far b ds [])) met
         → (t : Script) × ReadsSequence limit b body (place i n k closed [] ds) (place at count k ended [] bodies) t × (script_of b t ≡ items)
 
-  pub record PrintsSequence (limit k d : ℕ) (items : bare.Items) : Type 0 where
-    pub print : (i n : ℕ) (closed : Bool) (ds : List Document) (rest : List ℕ) → drop i b ≡ 10 ∷ (items_text d items ++ rest) → IsStop rest → PrintedSequence limit i n k closed ds items rest
+  pub record PrintsSequence (limit k d m : ℕ) (items : bare.Items) : Type 0 where
+    pub print : (i n : ℕ) (closed : Bool) (ds : List Document) (rest : List ℕ) → drop i b ≡ 10 ∷ (items_text d items ++ rest) → IsStop rest → PrintedSequence limit m i n k closed ds items rest
 
-  pub nothing_prints : {limit k d : ℕ} → PrintsSequence limit k d bare.no_items
+  pub nothing_prints : {limit k d : ℕ} → PrintsSequence limit k d 0 bare.no_items
   unfolding items_text items_from
   nothing_prints {limit = limit} {k = k} = record {
     print = λ i n closed ds rest e stop.
@@ -140,11 +144,12 @@ module _ (b : List ℕ) where
           met = [];
           kept = p.kept ∙ sym (append-nil (so_far b ds []));
           behind = p.behind;
+          total = p.total;
           reads = λ body f. (tree.script [], r.nothing p.reads (ap begins_pipeline (lead_there b First p.at (front rest) p.behind) ∙ stop.none), script_made b []);
         };
   }
 
-  pub sequence_prints : {limit k d : ℕ} {items : bare.Items} → PrintsList b limit k d items → PrintsSequence limit k d items
+  pub sequence_prints : {limit k d m : ℕ} {items : bare.Items} → PrintsList b limit k d m items → PrintsSequence limit k d m items
   sequence_prints list = record {
     print = λ i n closed ds rest e stop.
         let p = list.print i n closed ds rest e stop in
@@ -156,6 +161,7 @@ module _ (b : List ℕ) where
           met = p.met;
           kept = p.kept;
           behind = p.behind;
+          total = p.total;
           reads = λ body f. let t = p.reads body f in (t.0, r.sequence t.1, t.2);
         };
   }
@@ -166,7 +172,7 @@ module _ (b : List ℕ) where
   abbrev pub esac_text : ℕ → List ℕ → List ℕ
   esac_text d rest = tabs d ++ (codes "esac" ++ rest)
 
-  pub record PrintedClauses (limit i n k : ℕ) (closed : Bool) (ds : List Document) (clauses : bare.Clauses) (rest : List ℕ) : Type 0 where
+  pub record PrintedClauses (limit m i n k : ℕ) (closed : Bool) (ds : List Document) (clauses : bare.Clauses) (rest : List ℕ) : Type 0 where
     pub at : ℕ
     pub count : ℕ
     pub ended : Bool
@@ -174,15 +180,16 @@ module _ (b : List ℕ) where
     pub met : List bare.Document
     pub kept : so_far b bodies [] ≡ so_far b ds [] ++ met
     pub behind : drop at b ≡ front rest
+    pub total : count ≡ n + m
     pub reads : (body : ℕ → Document) → Fits b body (length (so_far b ds [])) met
         → (cs : List Clause) × ReadsClauses limit b body (place i n k closed [] ds) (place at count k ended [] bodies) cs × (clauses_from b cs ≡ clauses)
 
-  pub record PrintsClauses (limit k d : ℕ) (clauses : bare.Clauses) : Type 0 where
+  pub record PrintsClauses (limit k d m : ℕ) (clauses : bare.Clauses) : Type 0 where
     pub straight : (rest : List ℕ) → Gap rest → is_newline_lead (lead_at (front (clauses_text d clauses ++ esac_text d rest)) First 0) ≡ false
-    pub print : (i n : ℕ) (closed : Bool) (ds : List Document) (rest : List ℕ) → drop i b ≡ front (clauses_text d clauses ++ esac_text d rest) → Gap rest → PrintedClauses limit i n k closed ds clauses rest
+    pub print : (i n : ℕ) (closed : Bool) (ds : List Document) (rest : List ℕ) → drop i b ≡ front (clauses_text d clauses ++ esac_text d rest) → Gap rest → PrintedClauses limit m i n k closed ds clauses rest
 
   -- esac
-  pub esac_prints : {limit k : ℕ} (d : ℕ) → PrintsClauses limit k d bare.no_clauses
+  pub esac_prints : {limit k : ℕ} (d : ℕ) → PrintsClauses limit k d 0 bare.no_clauses
   unfolding items_text reserved_text clauses_from
   esac_prints d = record {
     straight = λ rest gap. ap (λ t. is_newline_lead (lead_at t First 0)) (line_front d word.Esac rest) ∙ ap is_newline_lead (reserved_leads word.Esac rest gap);
@@ -196,6 +203,7 @@ module _ (b : List ℕ) where
           met = [];
           kept = sym (append-nil (so_far b ds []));
           behind = fronted b (i + 4) rest (off b i (codes "esac") rest here);
+          total = (let none : n ≡ n + 0 = omega arith in none);
           reads = λ body f. ([], r.esac (lead_there b First i _ here ∙ reserved_leads word.Esac rest gap), refl);
         };
   }
@@ -259,7 +267,7 @@ module _ (b : List ℕ) where
       ∙ ap (λ m. bare.more_clauses patterns m end (clauses_from b cs)) k ∙ ap (bare.more_clauses patterns items end) l
 
   -- the list of a clause and its mark, from its newline to the token after the newline of the mark
-  record PrintedInside (limit i n k : ℕ) (closed : Bool) (ds : List Document) (items : bare.Items) (end : ClauseEnd) (cs : List ℕ) : Type 0 where
+  record PrintedInside (limit m i n k : ℕ) (closed : Bool) (ds : List Document) (items : bare.Items) (end : ClauseEnd) (cs : List ℕ) : Type 0 where
     at : ℕ
     count : ℕ
     ended : Bool
@@ -268,13 +276,14 @@ module _ (b : List ℕ) where
     mark : State
     kept : so_far b bodies [] ≡ so_far b ds [] ++ met
     behind : drop at b ≡ front cs
+    total : count ≡ n + m
     ends : clause_end_of (lead_here b mark) ≡ Some end
     breaks : ReadsBreaks limit b (behind_token b (codes ";;") mark) (place at count k ended [] bodies)
     reads : (body : ℕ → Document) → Fits b body (length (so_far b ds [])) met
         → (t : Script) × ReadsSequence limit b body (place i n k closed [] ds) mark t × (script_of b t ≡ items)
 
-  inside_print : {limit k : ℕ} {items : bare.Items} (d : ℕ) (end : ClauseEnd) → PrintsSequence limit k (d + 2) items → (i n : ℕ) (closed : Bool) (ds : List Document) (cs : List ℕ)
-      → drop i b ≡ 10 ∷ (items_text (d + 2) items ++ (tabs (d + 2) ++ (clause_end_text end ++ 10 ∷ cs))) → is_newline_lead (lead_at (front cs) First 0) ≡ false → PrintedInside limit i n k closed ds items end cs
+  inside_print : {limit k m : ℕ} {items : bare.Items} (d : ℕ) (end : ClauseEnd) → PrintsSequence limit k (d + 2) m items → (i n : ℕ) (closed : Bool) (ds : List Document) (cs : List ℕ)
+      → drop i b ≡ 10 ∷ (items_text (d + 2) items ++ (tabs (d + 2) ++ (clause_end_text end ++ 10 ∷ cs))) → is_newline_lead (lead_at (front cs) First 0) ≡ false → PrintedInside limit m i n k closed ds items end cs
   inside_print {limit = limit} {k = k} {items = items} d end list i n closed ds cs e straight =
       let text = clause_end_text end ++ 10 ∷ cs in
       let ends = end_stands end cs in
@@ -295,14 +304,15 @@ module _ (b : List ℕ) where
         mark = place one.at one.count k one.ended [] one.bodies;
         kept = p.kept ∙ one.kept;
         behind = p.behind;
+        total = (let all = p.total in let first = one.total in omega arith);
         ends = ap clause_end_of (lead_there b First one.at text marked) ∙ ends.is_end;
         breaks = p.reads;
         reads = one.reads;
       }
 
   -- ( patterns ), a list or nothing, the mark at the end, and further clauses
-  pub clause_prints : {limit k : ℕ} {patterns : List Text} {items : bare.Items} {end : ClauseEnd} {clauses : bare.Clauses} (d : ℕ) → PrintablePatterns limit k patterns → PrintsSequence limit k (d + 2) items
-      → PrintsClauses limit k d clauses → PrintsClauses limit k d (bare.more_clauses patterns items end clauses)
+  pub clause_prints : {limit k m o later : ℕ} {patterns : List Text} {items : bare.Items} {end : ClauseEnd} {clauses : bare.Clauses} (d : ℕ) → PrintablePatterns limit k m patterns → PrintsSequence limit k (d + 2) o items
+      → PrintsClauses limit k d later clauses → PrintsClauses limit k d (m + o + later) (bare.more_clauses patterns items end clauses)
   clause_prints {limit = limit} {k = k} {patterns = patterns} {items = items} {end = end} {clauses = clauses} d printable list others = record {
     straight = λ rest gap. ap (λ t. is_newline_lead (lead_at t First 0)) (clause_text d patterns items end clauses rest) ∙ open_straight (patterns_text patterns ++ 41 ∷ behind_patterns d items end clauses rest);
     print = λ i n closed ds rest e gap.
@@ -322,6 +332,7 @@ module _ (b : List ℕ) where
           met = one.met ++ two.met;
           kept = kept_both (so_far b ds []) (so_far b one.bodies []) (so_far b two.bodies []) one.met two.met one.kept two.kept;
           behind = two.behind;
+          total = (let all = two.total in let second = one.total in let first = words.total in omega arith);
           reads = λ body f.
               let parts = fits_both b (so_far b ds []) (so_far b one.bodies []) one.met two.met one.kept f in
               let t = one.reads body parts.0 in
@@ -331,10 +342,10 @@ module _ (b : List ℕ) where
   }
 
   -- case WORD in, its clauses and esac
-  pub case_prints : {limit k : ℕ} {w : Text} {form : Form} {clauses : bare.Clauses} (d : ℕ) → k < limit → TokenOf (Named false) w → PrintableWord limit (k + 1) false Unsplit form w
-      → PrintsClauses limit (k + 1) d clauses → PrintsCompound b limit k d (bare.Case w clauses)
+  pub case_prints : {limit k m o : ℕ} {w : Text} {form : Form} {clauses : bare.Clauses} (d : ℕ) → k < limit → TokenOf (Named false) w → PrintableWord limit (k + 1) false Unsplit form m w
+      → PrintsClauses limit (k + 1) d o clauses → PrintsCompound b limit k d (m + o) (bare.Case w clauses)
   unfolding items_text reserved_text begins_compound context_of is_first
-  case_prints {limit = limit} {k = k} {w = w} {form = form} {clauses = clauses} d deep token printable inner = record {
+  case_prints {limit = limit} {k = k} {m = m} {w = w} {form = form} {clauses = clauses} d deep token printable inner = record {
     print = λ i n closed ds rest e close.
         let c = clauses_text d clauses ++ esac_text d rest in
         let in_text = codes "in" ++ 10 ∷ c in
@@ -349,7 +360,7 @@ module _ (b : List ℕ) where
         let p = blanks false b (j + length w) in
         let e3 : drop p b ≡ in_text = one.behind ∙ front_blank 32 in_text refl ∙ reserved_front word.In (10 ∷ c) in
         let in_is = lead_there b First p in_text e3 ∙ reserved_leads word.In (10 ∷ c) line in
-        let break = break_print b limit (blanks false b (p + 2)) one.count (k + 1) closed [] ds [] c no_mark
+        let break = break_print b limit (blanks false b (p + 2)) (n + m) (k + 1) closed [] ds [] c no_mark
         (fronted b (p + 2) (10 ∷ c) (off b p (codes "in") (10 ∷ c) e3) ∙ front_none 10 c refl refl refl) (inner.straight rest close.gap) in
         let two = inner.print break.at break.count closed break.bodies rest break.behind close.gap in
         record {
@@ -363,6 +374,7 @@ module _ (b : List ℕ) where
           begins = refl;
           kept = two.kept ∙ ap (λ t. t ++ two.met) break.kept;
           behind = two.behind;
+          total = (let all = two.total in let first = break.total in omega arith);
           reads = λ body f.
               let cs = two.reads body (subst (λ x. Fits b body (length x) two.met) (sym break.kept) f) in
               let x = tree.word j (j + length w) one.parts in (

@@ -1,5 +1,5 @@
 -- Printed commands are read, given that the compound commands among them are.
-use Rattle.std.proofs.Common.{◌≡◌, ℕ, ◌+◌, Bool, true, false, None, List, [], ◌∷◌, ◌++◌, length, drop, map, codes, refl, sym, ap, subst, ◌∙◌, append_assoc, append-nil}
+use Rattle.std.proofs.Common.{◌≡◌, ℕ, suc, ◌+◌, Bool, true, false, None, List, [], ◌∷◌, ◌++◌, length, drop, map, codes, refl, sym, ap, subst, ◌∙◌, append_assoc, append-nil, arith}
 use Rattle.std.specs.List.{flat_map}
 use Rattle.std.proofs.lemmas.Bool.{true≢false}
 use Rattle.sh_tree.specs.declared.tree.Command.{Command}
@@ -53,7 +53,7 @@ record KindStarts (cs : List ℕ) : Type 0 where
   front_is : front cs ≡ cs
   begins : begins_compound (lead_at cs First 0) ≡ true
 
-kind_starts : {limit k : ℕ} {what : bare.Kind} → PrintableCompound limit k what → (d : ℕ) (rest : List ℕ) → KindStarts (kind_text d what ++ rest)
+kind_starts : {limit k m : ℕ} {what : bare.Kind} → PrintableCompound limit k m what → (d : ℕ) (rest : List ℕ) → KindStarts (kind_text d what ++ rest)
 unfolding items_text reserved_text begins_compound
 kind_starts (p.group deep list) d rest = record { front_is = front_none 123 _ refl refl refl; begins = ap begins_compound (reserved_leads word.LeftBrace (10 ∷ _) line) }
 kind_starts (p.subshell deep list) d rest = record { front_is = front_none 40 _ refl refl refl; begins = ap begins_compound (opening_leads (10 ∷ _) line) }
@@ -64,7 +64,7 @@ kind_starts (p.loop {kind = loop.Until} deep test list) d rest = record { front_
 kind_starts (p.for_loop deep named words list) d rest = record { front_is = front_none 102 _ refl refl refl; begins = ap begins_compound (reserved_leads word.For (32 ∷ _) blank) }
 kind_starts (p.case_of deep token printable others) d rest = record { front_is = front_none 99 _ refl refl refl; begins = ap begins_compound (reserved_leads word.Case (32 ∷ _) blank) }
 
-compound_pending : {limit k : ℕ} {what : bare.Kind} → PrintableCompound limit k what → kind_pending what ≡ []
+compound_pending : {limit k m : ℕ} {what : bare.Kind} → PrintableCompound limit k m what → kind_pending what ≡ []
 unfolding pending
 compound_pending (p.group deep list) = refl
 compound_pending (p.subshell deep list) = refl
@@ -98,7 +98,7 @@ pub record CommandStarts (cs : List ℕ) : Type 0 where
   pub front_is : front cs ≡ cs
   pub begins : begins_command (lead_at cs First 0) ≡ true
 
-pub command_starts : {limit k : ℕ} {c : bare.Command} → PrintableCommand limit k c → (d : ℕ) (rest : List ℕ) → IsTail rest → CommandStarts (command_text d c ++ rest)
+pub command_starts : {limit k m : ℕ} {c : bare.Command} → PrintableCommand limit k m c → (d : ℕ) (rest : List ℕ) → IsTail rest → CommandStarts (command_text d c ++ rest)
 unfolding begins_command is_empty
 command_starts (p.simple_command {es = []} some printable) d rest tail = absurd (true≢false some)
 command_starts (p.simple_command {es = e ∷ es} some printable) d rest tail =
@@ -119,27 +119,30 @@ command_starts (p.definition {name = name} {k = what} {rs = qs} named free print
     record { front_is = ap front same ∙ (name_first name (40 ∷ inner) named).0 ∙ sym same; begins = ap (λ t. begins_command (lead_at t First 0)) same ∙ ap begins_command (definition_leads name inner named free) }
 
 module _ (b : List ℕ) where
-  pub record PrintedCommand (limit i n k : ℕ) (closed : Bool) (ds : List Document) (c : bare.Command) (rest : List ℕ) : Type 0 where
+  pub record PrintedCommand (limit m i n k : ℕ) (closed : Bool) (ds : List Document) (c : bare.Command) (rest : List ℕ) : Type 0 where
     pub at : ℕ
     pub count : ℕ
     pub ended : Bool
     pub marks : List Mark
     pub bodies : List Document
     pub met : List bare.Document
-    pub marked : Marked b limit marks (pending c)
+    -- the commands in what waits
+    pub left : ℕ
+    pub marked : Marked b limit left marks (pending c)
+    pub total : count + left ≡ n + m
     pub kept : so_far b bodies (pending c) ≡ so_far b ds [] ++ met
     pub behind : drop at b ≡ front rest
     pub reads : (body : ℕ → Document) → Fits b body (length (so_far b ds [])) met
         → (x : Command) × ReadsCommand limit b body (place i n k closed [] ds) (place at count k ended marks bodies) x × (command_of b x ≡ c)
 
   -- so deep, with so many tabs before the line
-  pub record PrintsCommand (limit k d : ℕ) (c : bare.Command) : Type 0 where
+  pub record PrintsCommand (limit k d m : ℕ) (c : bare.Command) : Type 0 where
     pub starts : (rest : List ℕ) → IsTail rest → CommandStarts (command_text d c ++ rest)
-    pub print : (i n : ℕ) (closed : Bool) (ds : List Document) (rest : List ℕ) → drop i b ≡ command_text d c ++ rest → IsTail rest → PrintedCommand limit i n k closed ds c rest
+    pub print : (i n : ℕ) (closed : Bool) (ds : List Document) (rest : List ℕ) → drop i b ≡ command_text d c ++ rest → IsTail rest → PrintedCommand limit m i n k closed ds c rest
 
   -- a simple command
-  simple_print : {limit k : ℕ} {e : bare.Element} {es : List bare.Element} (d : ℕ) → PrintableElements limit k First false (e ∷ es) → (i n : ℕ) (closed : Bool) (ds : List Document) (rest : List ℕ)
-      → drop i b ≡ command_text d (bare.command (bare.Simple (e ∷ es)) []) ++ rest → IsTail rest → PrintedCommand limit i n k closed ds (bare.command (bare.Simple (e ∷ es)) []) rest
+  simple_print : {limit k m : ℕ} {e : bare.Element} {es : List bare.Element} (d : ℕ) → PrintableElements limit k First false m (e ∷ es) → (i n : ℕ) (closed : Bool) (ds : List Document) (rest : List ℕ)
+      → drop i b ≡ command_text d (bare.command (bare.Simple (e ∷ es)) []) ++ rest → IsTail rest → PrintedCommand limit (suc m) i n k closed ds (bare.command (bare.Simple (e ∷ es)) []) rest
   unfolding pending is_empty
   simple_print {limit = limit} {e = e} {es = es} d printable i n closed ds rest there tail =
       let met = flat_map element_documents (e ∷ es) in
@@ -152,7 +155,9 @@ module _ (b : List ℕ) where
         marks = p.marks;
         bodies = ds;
         met = met;
-        marked = subst (λ x. Marked b limit p.marks x) (sym (append-nil met)) p.marked;
+        left = p.left;
+        marked = subst (λ x. Marked b limit p.left p.marks x) (sym (append-nil met)) p.marked;
+        total = (let all = p.total in omega arith);
         kept = ap (λ x. map (document_of b) ds ++ x) (append-nil met) ∙ ap (λ x. x ++ met) (sym (append-nil (map (document_of b) ds)));
         behind = p.behind;
         reads = λ body f. let xs = p.reads body f in (
@@ -163,8 +168,8 @@ module _ (b : List ℕ) where
       }
 
   -- a compound command and its redirections
-  compound_print : {limit k d : ℕ} {what : bare.Kind} {qs : List bare.Redirect} → PrintsCompound b limit k d what → kind_pending what ≡ [] → PrintableRedirects limit k false qs → (i n : ℕ) (closed : Bool) (ds : List Document) (rest : List ℕ)
-      → drop i b ≡ command_text d (bare.command what qs) ++ rest → IsTail rest → PrintedCommand limit i n k closed ds (bare.command what qs) rest
+  compound_print : {limit k d m o : ℕ} {what : bare.Kind} {qs : List bare.Redirect} → PrintsCompound b limit k d m what → kind_pending what ≡ [] → PrintableRedirects limit k false o qs → (i n : ℕ) (closed : Bool) (ds : List Document) (rest : List ℕ)
+      → drop i b ≡ command_text d (bare.command what qs) ++ rest → IsTail rest → PrintedCommand limit (suc (m + o)) i n k closed ds (bare.command what qs) rest
   unfolding pending
   compound_print {limit = limit} {k = k} {d = d} {what = what} {qs = qs} prints none redirects i n closed ds rest there tail =
       let later = flat_map redirect_documents qs in
@@ -179,7 +184,9 @@ module _ (b : List ℕ) where
         marks = two.marks;
         bodies = one.bodies;
         met = one.met ++ later;
-        marked = subst (λ x. Marked b limit two.marks (x ++ later)) (sym none) two.marked;
+        left = two.left;
+        marked = subst (λ x. Marked b limit two.left two.marks (x ++ later)) (sym none) two.marked;
+        total = (let all = two.total in let first = one.total in omega arith);
         kept = kept_both (so_far b ds []) (so_far b one.bodies []) (so_far b one.bodies (kind_pending what ++ later)) one.met later one.kept joined;
         behind = two.behind;
         reads = λ body f.
@@ -194,10 +201,10 @@ module _ (b : List ℕ) where
       }
 
   -- NAME ( ), a newline, and a compound command with its redirections
-  define_print : {limit k d : ℕ} {name : Text} {what : bare.Kind} {qs : List bare.Redirect} → Name name → entry_of reserved_words name ≡ None → PrintsCompound b limit k d what → PrintableCompound limit k what
-      → PrintableRedirects limit k false qs → (i n : ℕ) (closed : Bool) (ds : List Document) (rest : List ℕ)
+  define_print : {limit k d m o : ℕ} {name : Text} {what : bare.Kind} {qs : List bare.Redirect} → Name name → entry_of reserved_words name ≡ None → PrintsCompound b limit k d m what → PrintableCompound limit k m what
+      → PrintableRedirects limit k false o qs → (i n : ℕ) (closed : Bool) (ds : List Document) (rest : List ℕ)
       → drop i b ≡ command_text d (bare.command (bare.Define name (bare.command what qs)) []) ++ rest → IsTail rest
-      → PrintedCommand limit i n k closed ds (bare.command (bare.Define name (bare.command what qs)) []) rest
+      → PrintedCommand limit (suc (suc (m + o))) i n k closed ds (bare.command (bare.Define name (bare.command what qs)) []) rest
   unfolding pending
   define_print {limit = limit} {k = k} {d = d} {name = name} {what = what} {qs = qs} named free prints printable redirects i n closed ds rest there tail =
       let c = bare.command what qs in
@@ -226,7 +233,9 @@ module _ (b : List ℕ) where
         marks = one.marks;
         bodies = one.bodies;
         met = one.met;
-        marked = subst (λ x. Marked b limit one.marks x) (sym (append-nil (pending c))) one.marked;
+        left = one.left;
+        marked = subst (λ x. Marked b limit one.left one.marks x) (sym (append-nil (pending c))) one.marked;
+        total = (let all = one.total in let first = p.total in omega arith);
         kept = ap (so_far b one.bodies) (append-nil (pending c)) ∙ one.kept ∙ ap (λ x. x ++ one.met) p.kept;
         behind = one.behind;
         reads = λ body f.
@@ -241,19 +250,19 @@ module _ (b : List ℕ) where
             );
       }
 
-  pub simple_prints : {limit k : ℕ} {es : List bare.Element} (d : ℕ) → is_empty es ≡ false → PrintableElements limit k First false es → PrintsCommand limit k d (bare.command (bare.Simple es) [])
+  pub simple_prints : {limit k m : ℕ} {es : List bare.Element} (d : ℕ) → is_empty es ≡ false → PrintableElements limit k First false m es → PrintsCommand limit k d (suc m) (bare.command (bare.Simple es) [])
   unfolding is_empty
   simple_prints {es = []} d some printable = absurd (true≢false some)
   simple_prints {es = e ∷ es} d some printable = record { starts = command_starts (p.simple_command some printable) d; print = simple_print d printable }
 
-  pub compound_prints : {limit k d : ℕ} {what : bare.Kind} {qs : List bare.Redirect} → PrintsCompound b limit k d what → PrintableCompound limit k what → PrintableRedirects limit k false qs → PrintsCommand limit k d (bare.command what qs)
+  pub compound_prints : {limit k d m o : ℕ} {what : bare.Kind} {qs : List bare.Redirect} → PrintsCompound b limit k d m what → PrintableCompound limit k m what → PrintableRedirects limit k false o qs → PrintsCommand limit k d (suc (m + o)) (bare.command what qs)
   compound_prints {d = d} prints printable redirects = record {
     starts = command_starts (p.compound_command printable redirects) d;
     print = compound_print prints (compound_pending printable) redirects;
   }
 
-  pub define_prints : {limit k d : ℕ} {name : Text} {what : bare.Kind} {qs : List bare.Redirect} → Name name → entry_of reserved_words name ≡ None → PrintsCompound b limit k d what → PrintableCompound limit k what
-      → PrintableRedirects limit k false qs → PrintsCommand limit k d (bare.command (bare.Define name (bare.command what qs)) [])
+  pub define_prints : {limit k d m o : ℕ} {name : Text} {what : bare.Kind} {qs : List bare.Redirect} → Name name → entry_of reserved_words name ≡ None → PrintsCompound b limit k d m what → PrintableCompound limit k m what
+      → PrintableRedirects limit k false o qs → PrintsCommand limit k d (suc (suc (m + o))) (bare.command (bare.Define name (bare.command what qs)) [])
   define_prints {d = d} named free prints printable redirects = record {
     starts = command_starts (p.definition named free printable redirects) d;
     print = define_print named free prints printable redirects;

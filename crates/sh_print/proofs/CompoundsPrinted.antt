@@ -1,5 +1,5 @@
 -- Printed compound commands are read, given that the lists in them are.
-use Rattle.std.proofs.Common.{◌≡◌, ℕ, ◌+◌, ◌<◌, Bool, true, false, Option, Some, None, List, [], ◌∷◌, ◌++◌, length, drop, codes, refl, sym, ap, subst, ◌∙◌, append_assoc, append-nil}
+use Rattle.std.proofs.Common.{◌≡◌, ℕ, ◌+◌, ◌<◌, Bool, true, false, Option, Some, None, List, [], ◌∷◌, ◌++◌, length, drop, codes, refl, sym, ap, subst, ◌∙◌, append_assoc, append-nil, arith}
 use Rattle.sh_tree.specs.declared.tree.Branch.{Branch}
 use Rattle.sh_tree.specs.declared.tree.Kind.{Kind}
 use Rattle.sh_tree.specs.declared.tree.Kind.TheVariants as kind
@@ -32,7 +32,7 @@ use Rattle.sh_copies.proofs.Leads.{closing_lead}
 
 module _ (b : List ℕ) where
   -- a compound command from its first token to the token after it
-  pub record PrintedCompound (limit i n k : ℕ) (closed : Bool) (ds : List Document) (what : bare.Kind) (rest : List ℕ) : Type 0 where
+  pub record PrintedCompound (limit m i n k : ℕ) (closed : Bool) (ds : List Document) (what : bare.Kind) (rest : List ℕ) : Type 0 where
     pub at : ℕ
     pub count : ℕ
     pub ended : Bool
@@ -43,14 +43,15 @@ module _ (b : List ℕ) where
     pub begins : begins_compound first ≡ true
     pub kept : so_far b bodies [] ≡ so_far b ds [] ++ met
     pub behind : drop at b ≡ front rest
+    pub total : count ≡ n + m
     pub reads : (body : ℕ → Document) → Fits b body (length (so_far b ds [])) met
         → (x : Kind) × ReadsCompound limit b body first (place i n k closed [] ds) (place at count k ended [] bodies) x × (kind_of b x ≡ what)
 
-  pub record PrintsCompound (limit k d : ℕ) (what : bare.Kind) : Type 0 where
-    pub print : (i n : ℕ) (closed : Bool) (ds : List Document) (rest : List ℕ) → drop i b ≡ kind_text d what ++ rest → IsClosed rest → PrintedCompound limit i n k closed ds what rest
+  pub record PrintsCompound (limit k d m : ℕ) (what : bare.Kind) : Type 0 where
+    pub print : (i n : ℕ) (closed : Bool) (ds : List Document) (rest : List ℕ) → drop i b ≡ kind_text d what ++ rest → IsClosed rest → PrintedCompound limit m i n k closed ds what rest
 
   -- { list }
-  pub group_prints : {limit k : ℕ} {items : bare.Items} (d : ℕ) → k < limit → PrintsList b limit (k + 1) (d + 1) items → PrintsCompound limit k d (bare.Group items)
+  pub group_prints : {limit k m : ℕ} {items : bare.Items} (d : ℕ) → k < limit → PrintsList b limit (k + 1) (d + 1) m items → PrintsCompound limit k d m (bare.Group items)
   unfolding items_text reserved_text begins_compound begins_pipeline begins_command begins_simple is_redirection
   group_prints {items = items} d deep list = record {
     print = λ i n closed ds rest e close.
@@ -70,13 +71,14 @@ module _ (b : List ℕ) where
           begins = refl;
           kept = one.kept;
           behind = fronted b (one.at + 1) rest (one_off b one.at there);
+          total = one.total;
           reads = λ body f. let t = one.reads body f in
               (kind.Group t.0, r.group deep t.1 (lead_there b First one.at _ there ∙ reserved_leads word.RightBrace rest close.gap), kind_of-Group b t.0 ∙ ap bare.Group t.2);
         };
   }
 
   -- ( list )
-  pub subshell_prints : {limit k : ℕ} {items : bare.Items} (d : ℕ) → k < limit → PrintsList b limit (k + 1) (d + 1) items → PrintsCompound limit k d (bare.Subshell items)
+  pub subshell_prints : {limit k m : ℕ} {items : bare.Items} (d : ℕ) → k < limit → PrintsList b limit (k + 1) (d + 1) m items → PrintsCompound limit k d m (bare.Subshell items)
   unfolding items_text begins_compound begins_pipeline begins_command begins_simple is_redirection redirects
   subshell_prints {items = items} d deep list = record {
     print = λ i n closed ds rest e close.
@@ -98,13 +100,14 @@ module _ (b : List ℕ) where
           begins = refl;
           kept = one.kept;
           behind = fronted b (one.at + 1) rest (one_off b one.at there);
+          total = one.total;
           reads = λ body f. let t = one.reads body f in
               (kind.Subshell t.0, r.subshell deep t.1 (lead_there b First one.at _ there ∙ closing_lead First rest), kind_of-Subshell b t.0 ∙ ap bare.Subshell t.2);
         };
   }
 
   -- a condition after its word, and `do`, a list and `done`
-  record PrintedLoop (limit i n k : ℕ) (closed : Bool) (ds : List Document) (w : List ℕ) (condition items : bare.Items) (rest : List ℕ) : Type 0 where
+  record PrintedLoop (limit m i n k : ℕ) (closed : Bool) (ds : List Document) (w : List ℕ) (condition items : bare.Items) (rest : List ℕ) : Type 0 where
     at : ℕ
     count : ℕ
     ended : Bool
@@ -113,13 +116,14 @@ module _ (b : List ℕ) where
     line_is : (inner : List ℕ) × (drop i b ≡ w ++ 10 ∷ inner)
     kept : so_far b bodies [] ≡ so_far b ds [] ++ met
     behind : drop at b ≡ front rest
+    total : count ≡ n + m
     reads : (body : ℕ → Document) → Fits b body (length (so_far b ds [])) met
         → (u : State) × (c : Script) × (t : Script) × ReadsList limit b body (place (blanks false b (i + length w)) n k closed [] ds) u c
         × ReadsDo limit b body u (place at count k ended [] bodies) t × (script_of b c ≡ condition) × (script_of b t ≡ items)
 
-  loop_print : {limit k : ℕ} {condition items : bare.Items} (d : ℕ) → PrintsList b limit k (d + 1) condition → PrintsList b limit k (d + 1) items → (w : List ℕ) (i n : ℕ) (closed : Bool) (ds : List Document) (rest : List ℕ)
+  loop_print : {limit k m o : ℕ} {condition items : bare.Items} (d : ℕ) → PrintsList b limit k (d + 1) m condition → PrintsList b limit k (d + 1) o items → (w : List ℕ) (i n : ℕ) (closed : Bool) (ds : List Document) (rest : List ℕ)
       → drop i b ≡ (block d w (items_text (d + 1) condition) ++ (block d (codes "do") (items_text (d + 1) items) ++ codes "done")) ++ rest → Gap rest
-      → PrintedLoop limit i n k closed ds w condition items rest
+      → PrintedLoop limit (m + o) i n k closed ds w condition items rest
   unfolding reserved_text begins_compound begins_pipeline begins_command begins_simple is_redirection
   loop_print {k = k} {condition = condition} {items = items} d test list w i n closed ds rest e gap =
       let after = block d (codes "do") (items_text (d + 1) items) ++ (codes "done" ++ rest) in
@@ -143,6 +147,7 @@ module _ (b : List ℕ) where
         line_is = (items_text (d + 1) condition ++ tail, e1);
         kept = kept_both (so_far b ds []) (so_far b one.bodies []) (so_far b two.bodies []) one.met two.met one.kept two.kept;
         behind = two.behind;
+        total = (let all = two.total in let first = one.total in omega arith);
         reads = λ body f.
             let parts = fits_both b (so_far b ds []) (so_far b one.bodies []) one.met two.met one.kept f in
             let c = one.reads body parts.0 in
@@ -151,8 +156,8 @@ module _ (b : List ℕ) where
       }
 
   -- while or until, a list, do, a list and done
-  pub loop_prints : {limit k : ℕ} {condition items : bare.Items} (d : ℕ) (how : LoopKind) → k < limit → PrintsList b limit (k + 1) (d + 1) condition → PrintsList b limit (k + 1) (d + 1) items
-      → PrintsCompound limit k d (bare.Loop how condition items)
+  pub loop_prints : {limit k m o : ℕ} {condition items : bare.Items} (d : ℕ) (how : LoopKind) → k < limit → PrintsList b limit (k + 1) (d + 1) m condition → PrintsList b limit (k + 1) (d + 1) o items
+      → PrintsCompound limit k d (m + o) (bare.Loop how condition items)
   unfolding items_text reserved_text begins_compound
   loop_prints {condition = condition} {items = items} d loop.While deep test list = record {
     print = λ i n closed ds rest e close.
@@ -168,6 +173,7 @@ module _ (b : List ℕ) where
           begins = refl;
           kept = p.kept;
           behind = p.behind;
+          total = p.total;
           reads = λ body f. let x = p.reads body f in
               (kind.Loop loop.While x.1 x.2, r.while_loop deep x.3 x.4, kind_of-Loop b loop.While x.1 x.2 ∙ ap (λ y. bare.Loop loop.While y (script_of b x.2)) x.5 ∙ ap (bare.Loop loop.While condition) x.6);
         };
@@ -186,6 +192,7 @@ module _ (b : List ℕ) where
           begins = refl;
           kept = p.kept;
           behind = p.behind;
+          total = p.total;
           reads = λ body f. let x = p.reads body f in
               (kind.Loop loop.Until x.1 x.2, r.until_loop deep x.3 x.4, kind_of-Loop b loop.Until x.1 x.2 ∙ ap (λ y. bare.Loop loop.Until y (script_of b x.2)) x.5 ∙ ap (bare.Loop loop.Until condition) x.6);
         };
@@ -201,7 +208,7 @@ module _ (b : List ℕ) where
   abbrev pub else_text : ℕ → bare.Branches → bare.Otherwise → List ℕ → List ℕ
   else_text d branches otherwise rest = branches_text d (codes "elif") branches ++ (otherwise_text d otherwise ++ (codes "fi" ++ rest))
 
-  pub record PrintedElse (limit i n k : ℕ) (closed : Bool) (ds : List Document) (branches : bare.Branches) (otherwise : bare.Otherwise) (rest : List ℕ) : Type 0 where
+  pub record PrintedElse (limit m i n k : ℕ) (closed : Bool) (ds : List Document) (branches : bare.Branches) (otherwise : bare.Otherwise) (rest : List ℕ) : Type 0 where
     pub at : ℕ
     pub count : ℕ
     pub ended : Bool
@@ -209,16 +216,17 @@ module _ (b : List ℕ) where
     pub met : List bare.Document
     pub kept : so_far b bodies [] ≡ so_far b ds [] ++ met
     pub behind : drop at b ≡ front rest
+    pub total : count ≡ n + m
     pub reads : (body : ℕ → Document) → Fits b body (length (so_far b ds [])) met
         → (bs : List Branch) × (o : Option Script) × ReadsElse limit b body (place i n k closed [] ds) (place at count k ended [] bodies) bs o
         × (branches_from b bs ≡ branches) × (otherwise_from o ≡ otherwise)
 
-  pub record PrintsElse (limit k d : ℕ) (branches : bare.Branches) (otherwise : bare.Otherwise) : Type 0 where
+  pub record PrintsElse (limit k d m : ℕ) (branches : bare.Branches) (otherwise : bare.Otherwise) : Type 0 where
     pub stops : (rest : List ℕ) → Gap rest → IsStop (tabs d ++ else_text d branches otherwise rest)
     pub front_is : (rest : List ℕ) → front (else_text d branches otherwise rest) ≡ else_text d branches otherwise rest
-    pub print : (i n : ℕ) (closed : Bool) (ds : List Document) (rest : List ℕ) → drop i b ≡ else_text d branches otherwise rest → Gap rest → PrintedElse limit i n k closed ds branches otherwise rest
+    pub print : (i n : ℕ) (closed : Bool) (ds : List Document) (rest : List ℕ) → drop i b ≡ else_text d branches otherwise rest → Gap rest → PrintedElse limit m i n k closed ds branches otherwise rest
 
-  pub record PrintedBranches (limit i n k : ℕ) (closed : Bool) (ds : List Document) (w : List ℕ) (branches : bare.Branches) (otherwise : bare.Otherwise) (rest : List ℕ) : Type 0 where
+  pub record PrintedBranches (limit m i n k : ℕ) (closed : Bool) (ds : List Document) (w : List ℕ) (branches : bare.Branches) (otherwise : bare.Otherwise) (rest : List ℕ) : Type 0 where
     pub at : ℕ
     pub count : ℕ
     pub ended : Bool
@@ -227,17 +235,18 @@ module _ (b : List ℕ) where
     pub line_is : (inner : List ℕ) × (drop i b ≡ w ++ 10 ∷ inner)
     pub kept : so_far b bodies [] ≡ so_far b ds [] ++ met
     pub behind : drop at b ≡ front rest
+    pub total : count ≡ n + m
     pub reads : (body : ℕ → Document) → Fits b body (length (so_far b ds [])) met
         → (bs : List Branch) × (o : Option Script) × ReadsBranches limit b body (place (blanks false b (i + length w)) n k closed [] ds) (place at count k ended [] bodies) bs o
         × (branches_from b bs ≡ branches) × (otherwise_from o ≡ otherwise)
 
-  pub record PrintsBranches (limit k d : ℕ) (branches : bare.Branches) (otherwise : bare.Otherwise) : Type 0 where
+  pub record PrintsBranches (limit k d m : ℕ) (branches : bare.Branches) (otherwise : bare.Otherwise) : Type 0 where
     pub print : (w : List ℕ) (i n : ℕ) (closed : Bool) (ds : List Document) (rest : List ℕ) → drop i b ≡ branches_text d w branches ++ (otherwise_text d otherwise ++ (codes "fi" ++ rest)) → Gap rest
-        → PrintedBranches limit i n k closed ds w branches otherwise rest
+        → PrintedBranches limit m i n k closed ds w branches otherwise rest
 
   -- a condition after its word, `then`, a list, and what follows
-  pub branch_prints : {limit k : ℕ} {condition items : bare.Items} {branches : bare.Branches} {otherwise : bare.Otherwise} (d : ℕ) → PrintsList b limit k (d + 1) condition → PrintsList b limit k (d + 1) items
-      → PrintsElse limit k d branches otherwise → PrintsBranches limit k d (bare.more_branches condition items branches) otherwise
+  pub branch_prints : {limit k m o later : ℕ} {condition items : bare.Items} {branches : bare.Branches} {otherwise : bare.Otherwise} (d : ℕ) → PrintsList b limit k (d + 1) m condition → PrintsList b limit k (d + 1) o items
+      → PrintsElse limit k d later branches otherwise → PrintsBranches limit k d (m + o + later) (bare.more_branches condition items branches) otherwise
   unfolding items_text reserved_text begins_pipeline begins_command begins_simple begins_compound is_redirection
   branch_prints {k = k} {condition = condition} {items = items} {branches = branches} {otherwise = otherwise} d test list others = record {
     print = λ w i n closed ds rest e gap.
@@ -268,6 +277,7 @@ module _ (b : List ℕ) where
           line_is = (test_text ++ (tabs d ++ after), e1);
           kept = kept_both (so_far b ds []) (so_far b one.bodies []) (so_far b three.bodies []) one.met (two.met ++ three.met) one.kept kept;
           behind = three.behind;
+          total = (let all = three.total in let second = two.total in let first = one.total in omega arith);
           reads = λ body f.
               let parts = fits_both b (so_far b ds []) (so_far b one.bodies []) one.met (two.met ++ three.met) one.kept f in
               let more = fits_both b (so_far b one.bodies []) (so_far b two.bodies []) two.met three.met two.kept parts.1 in
@@ -285,7 +295,7 @@ module _ (b : List ℕ) where
   }
 
   -- fi
-  pub fi_prints : {limit k : ℕ} (d : ℕ) → PrintsElse limit k d bare.no_branches bare.no_else
+  pub fi_prints : {limit k : ℕ} (d : ℕ) → PrintsElse limit k d 0 bare.no_branches bare.no_else
   unfolding items_text reserved_text begins_pipeline begins_command begins_simple begins_compound is_redirection branches_from
   fi_prints d = record {
     stops = λ rest gap. word_stops d word.Fi rest gap refl;
@@ -298,12 +308,13 @@ module _ (b : List ℕ) where
       met = [];
       kept = sym (append-nil (so_far b ds []));
       behind = fronted b (i + 2) rest (off b i (codes "fi") rest e);
+      total = (let none : n ≡ n + 0 = omega arith in none);
       reads = λ body f. ([], None, r.fi (lead_there b First i _ e ∙ reserved_leads word.Fi rest gap), refl, refl);
     };
   }
 
   -- else, a list and fi
-  pub otherwise_prints : {limit k : ℕ} {items : bare.Items} (d : ℕ) → PrintsList b limit k (d + 1) items → PrintsElse limit k d bare.no_branches (bare.else_of items)
+  pub otherwise_prints : {limit k m : ℕ} {items : bare.Items} (d : ℕ) → PrintsList b limit k (d + 1) m items → PrintsElse limit k d m bare.no_branches (bare.else_of items)
   unfolding items_text reserved_text begins_pipeline begins_command begins_simple begins_compound is_redirection branches_from
   otherwise_prints {items = items} d list =
       let text = items_text (d + 1) items in
@@ -323,14 +334,15 @@ module _ (b : List ℕ) where
               met = one.met;
               kept = one.kept;
               behind = fronted b (one.at + 2) rest (off b one.at (codes "fi") rest there);
+              total = one.total;
               reads = λ body f. let t = one.reads body f in
                   ([], Some t.0, r.otherwise (lead_there b First i _ e1 ∙ reserved_leads word.Else (inner rest) line) t.1 (lead_there b First one.at _ there ∙ reserved_leads word.Fi rest gap), refl, ap bare.else_of t.2);
             };
       }
 
   -- elif, and a branch
-  pub elif_prints : {limit k : ℕ} {condition items : bare.Items} {branches : bare.Branches} {otherwise : bare.Otherwise} (d : ℕ)
-      → PrintsBranches limit k d (bare.more_branches condition items branches) otherwise → PrintsElse limit k d (bare.more_branches condition items branches) otherwise
+  pub elif_prints : {limit k m : ℕ} {condition items : bare.Items} {branches : bare.Branches} {otherwise : bare.Otherwise} (d : ℕ)
+      → PrintsBranches limit k d m (bare.more_branches condition items branches) otherwise → PrintsElse limit k d m (bare.more_branches condition items branches) otherwise
   unfolding items_text reserved_text begins_pipeline begins_command begins_simple begins_compound is_redirection
   elif_prints {condition = condition} {items = items} {branches = branches} {otherwise = otherwise} d more =
       let test_text = items_text (d + 1) condition in
@@ -351,13 +363,14 @@ module _ (b : List ℕ) where
               met = p.met;
               kept = p.kept;
               behind = p.behind;
+              total = p.total;
               reads = λ body f. let x = p.reads body f in
                   (x.0, x.1, r.elif (lead_there b First i _ (e ∙ same rest) ∙ reserved_leads word.Elif (inner rest) line) x.2, x.3, x.4);
             };
       }
 
   -- if
-  pub conditional_prints : {limit k : ℕ} {branches : bare.Branches} {otherwise : bare.Otherwise} (d : ℕ) → k < limit → PrintsBranches limit (k + 1) d branches otherwise → PrintsCompound limit k d (bare.Conditional branches otherwise)
+  pub conditional_prints : {limit k m : ℕ} {branches : bare.Branches} {otherwise : bare.Otherwise} (d : ℕ) → k < limit → PrintsBranches limit (k + 1) d m branches otherwise → PrintsCompound limit k d m (bare.Conditional branches otherwise)
   unfolding items_text reserved_text begins_compound
   conditional_prints {branches = branches} {otherwise = otherwise} d deep more = record {
     print = λ i n closed ds rest e close.
@@ -374,6 +387,7 @@ module _ (b : List ℕ) where
           begins = refl;
           kept = p.kept;
           behind = p.behind;
+          total = p.total;
           reads = λ body f. let x = p.reads body f in
               (kind.Cond x.0 x.1, r.cond deep x.2, whole x.0 x.1 ∙ ap (λ y. bare.Conditional y (otherwise_from x.1)) x.3 ∙ ap (bare.Conditional branches) x.4);
         };

@@ -54,25 +54,28 @@ module _ (b : List ℕ) where
           let rest = go (n + 1) zs f in
           (one_fit e rest.0, subst (λ m. Fits body m ys) (omega arith) rest.1)
 
-  -- the marks of the here-documents that wait
-  pub data Marked (limit : ℕ) : List Mark → List bare.Document → Type 0 where
-    no_mark : Marked limit [] []
-    one_mark : {m : Mark} {ms : List Mark} {d : bare.Document} {ds : List bare.Document} → PrintableDocument limit m d → Marked limit ms ds → Marked limit (m ∷ ms) (d ∷ ds)
+  -- the marks of the here-documents that wait, and how many commands begin in those
+  pub data Marked (limit : ℕ) : ℕ → List Mark → List bare.Document → Type 0 where
+    no_mark : Marked limit 0 [] []
+    one_mark : {own others : ℕ} {m : Mark} {ms : List Mark} {d : bare.Document} {ds : List bare.Document}
+        → PrintableDocument limit m own d → Marked limit others ms ds → Marked limit (own + others) (m ∷ ms) (d ∷ ds)
 
-  pub marked_join : {limit : ℕ} {ms ns : List Mark} {ds es : List bare.Document} → Marked limit ms ds → Marked limit ns es → Marked limit (ms ++ ns) (ds ++ es)
-  marked_join no_mark k = k
-  marked_join (one_mark d h) k = one_mark d (marked_join h k)
+  pub marked_join : {limit held more : ℕ} {ms ns : List Mark} {ds es : List bare.Document} → Marked limit held ms ds → Marked limit more ns es → Marked limit (held + more) (ms ++ ns) (ds ++ es)
+  marked_join {limit = limit} {more = more} {ns = ns} {es = es} no_mark k = subst (λ n. Marked limit n ns es) (let e : more ≡ 0 + more = omega arith in e) k
+  marked_join {limit = limit} {more = more} {ns = ns} {es = es} (one_mark {own = own} {others = others} {m = m} {ms = ms} {d = d} {ds = ds} document h) k =
+      let sum : own + (others + more) ≡ own + others + more = omega arith in
+      subst (λ n. Marked limit n (m ∷ (ms ++ ns)) (d ∷ (ds ++ es))) sum (one_mark document (marked_join h k))
 
-  marked_long : {limit : ℕ} {ms : List Mark} {ds : List bare.Document} → Marked limit ms ds → length ms ≡ length ds
+  marked_long : {limit held : ℕ} {ms : List Mark} {ds : List bare.Document} → Marked limit held ms ds → length ms ≡ length ds
   marked_long no_mark = refl
   marked_long (one_mark d h) = ap suc (marked_long h)
 
   -- how many operators have come
-  pub count_is : {limit : ℕ} {ms : List Mark} {waiting : List bare.Document} (ds : List Document) → Marked limit ms waiting → length (so_far ds waiting) ≡ length ds + length ms
+  pub count_is : {limit held : ℕ} {ms : List Mark} {waiting : List bare.Document} (ds : List Document) → Marked limit held ms waiting → length (so_far ds waiting) ≡ length ds + length ms
   count_is {ms = ms} {waiting = waiting} ds h = length-append (map document_of ds) waiting ∙ ap (λ n. n + length waiting) (length-map ds document_of) ∙ ap (λ n. length ds + n) (sym (marked_long h))
 
   -- the bodies after a newline
-  pub record PrintedDocuments (limit : ℕ) (ms : List Mark) (i n k : ℕ) (closed : Bool) (pending : List Mark) (ds : List Document) (documents : List bare.Document) (rest : List ℕ) : Type 0 where
+  pub record PrintedDocuments (limit held : ℕ) (ms : List Mark) (i n k : ℕ) (closed : Bool) (pending : List Mark) (ds : List Document) (documents : List bare.Document) (rest : List ℕ) : Type 0 where
     pub at : ℕ
     pub count : ℕ
     pub bodies : List Document
@@ -80,6 +83,7 @@ module _ (b : List ℕ) where
     pub behind : drop at b ≡ rest
     pub inside : at ≤ length b
     pub kept : map document_of bodies ≡ map document_of ds ++ documents
+    pub total : count ≡ n + held
 
   before_end : (i : ℕ) (c : ℕ) (cs : List ℕ) → drop i b ≡ c ∷ cs → nat_lt i (length b) ≡ true
   before_end i c cs e =
@@ -91,11 +95,11 @@ module _ (b : List ℕ) where
       let long : length b - i ≡ suc (length cs) = sym (length-drop i b) ∙ ap length e in
       omega arith
 
-  documents_print : (limit : ℕ) {ms : List Mark} {documents : List bare.Document} → Marked limit ms documents → (i n k : ℕ) (closed : Bool) (pending : List Mark) (ds : List Document) (rest : List ℕ)
-      → i ≤ length b → drop i b ≡ flat_map document_text documents ++ rest → PrintedDocuments limit ms i n k closed pending ds documents rest
+  documents_print : (limit : ℕ) {held : ℕ} {ms : List Mark} {documents : List bare.Document} → Marked limit held ms documents → (i n k : ℕ) (closed : Bool) (pending : List Mark) (ds : List Document) (rest : List ℕ)
+      → i ≤ length b → drop i b ≡ flat_map document_text documents ++ rest → PrintedDocuments limit held ms i n k closed pending ds documents rest
   unfolding keeps_document
   documents_print limit no_mark i n k closed pending ds rest inside e =
-      record { at = i; count = n; bodies = ds; reads = r.no_body; behind = e; inside = inside; kept = sym (append-nil (map document_of ds)) }
+      record { at = i; count = n; bodies = ds; reads = r.no_body; behind = e; inside = inside; kept = sym (append-nil (map document_of ds)); total = (let e : n ≡ n + 0 = omega arith in e) }
   documents_print limit {ms = m ∷ ms} {documents = d ∷ documents} (one_mark printable marked) i n k closed pending ds rest inside e =
       let later = flat_map document_text documents ++ rest in
       let e1 : drop i b ≡ d.body ++ (d.end ++ 10 ∷ later) =
@@ -120,6 +124,7 @@ module _ (b : List ℕ) where
         inside = p.inside;
         kept = p.kept ∙ ap (λ t. t ++ documents) (map-append document_of ds (one ∷ [])) ∙ append_assoc (map document_of ds) (document_of one ∷ []) documents
             ∙ ap (λ x. map document_of ds ++ x ∷ documents) here;
+        total = (let all = p.total in let own = read.4 in omega arith);
       }
 
   nothing_behind : (i : ℕ) → i ≤ length b → drop i b ≡ [] → blanks false b i ≡ length b
@@ -130,7 +135,7 @@ module _ (b : List ℕ) where
       omega arith
 
   -- a printed newline, the here-documents that waited, and the token after them
-  pub record PrintedBreak (limit i n k : ℕ) (closed : Bool) (ms : List Mark) (ds : List Document) (waiting : List bare.Document) (rest : List ℕ) : Type 0 where
+  pub record PrintedBreak (limit held i n k : ℕ) (closed : Bool) (ms : List Mark) (ds : List Document) (waiting : List bare.Document) (rest : List ℕ) : Type 0 where
     pub at : ℕ
     pub count : ℕ
     pub bodies : List Document
@@ -138,9 +143,10 @@ module _ (b : List ℕ) where
     pub behind : drop at b ≡ front rest
     pub kept : so_far bodies [] ≡ so_far ds waiting
     pub to_end : rest ≡ [] → at ≡ length b
+    pub total : count ≡ n + held
 
-  pub break_print : (limit i n k : ℕ) (closed : Bool) (ms : List Mark) (ds : List Document) (waiting : List bare.Document) (rest : List ℕ) → Marked limit ms waiting
-      → drop i b ≡ line_end waiting ++ rest → is_newline_lead (lead_at (front rest) First 0) ≡ false → PrintedBreak limit i n k closed ms ds waiting rest
+  pub break_print : (limit i n k : ℕ) (closed : Bool) (ms : List Mark) (ds : List Document) (waiting : List bare.Document) (rest : List ℕ) {held : ℕ} → Marked limit held ms waiting
+      → drop i b ≡ line_end waiting ++ rest → is_newline_lead (lead_at (front rest) First 0) ≡ false → PrintedBreak limit held i n k closed ms ds waiting rest
   break_print limit i n k closed ms ds waiting rest marked e straight =
       let p = documents_print limit marked (i + 1) n k closed [] ds rest (past_byte i 10 (flat_map document_text waiting ++ rest) e) (one_off b i e) in
       let behind = fronted b p.at rest p.behind in
@@ -153,4 +159,5 @@ module _ (b : List ℕ) where
         behind = behind;
         kept = append-nil (map document_of p.bodies) ∙ p.kept;
         to_end = λ last. nothing_behind p.at p.inside (p.behind ∙ last);
+        total = p.total;
       }

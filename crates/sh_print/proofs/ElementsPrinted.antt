@@ -83,7 +83,7 @@ or_left s t h = ap (λ x. x || t) h
 abbrev pub tail_text : List bare.Element → List ℕ
 tail_text es = flat_map (λ t. (32 ∷ []) ++ t) (map element_text es)
 
-redirect_starts : {limit k : ℕ} {quiet : Bool} (q : bare.Redirect) (rest : List ℕ) → PrintableRedirect limit k quiet q → Starts (redirect_text q ++ rest)
+redirect_starts : {limit k m : ℕ} {quiet : Bool} (q : bare.Redirect) (rest : List ℕ) → PrintableRedirect limit k quiet m q → Starts (redirect_text q ++ rest)
 redirect_starts q rest (p.file {w = w} digits token printable) =
     let first = redirect_first q.number q.opens (w ++ rest) digits in let same = redirect_whole q rest in
     record { front_is = ap front same ∙ first.0 ∙ sym same; closed = ap (is_first is_parenthesis) same ∙ first.1 }
@@ -91,7 +91,7 @@ redirect_starts q rest (p.here_document {w = w} digits token printable delimits 
     let first = redirect_first q.number q.opens (w ++ rest) digits in let same = redirect_whole q rest in
     record { front_is = ap front same ∙ first.0 ∙ sym same; closed = ap (is_first is_parenthesis) same ∙ first.1 }
 
-pub element_starts : {limit k : ℕ} {g : Stage} {quiet : Bool} {e : bare.Element} {es : List bare.Element} → PrintableElements limit k g quiet (e ∷ es) → (rest : List ℕ) → IsBehindWord rest
+pub element_starts : {limit k m : ℕ} {g : Stage} {quiet : Bool} {e : bare.Element} {es : List bare.Element} → PrintableElements limit k g quiet m (e ∷ es) → (rest : List ℕ) → IsBehindWord rest
     → Starts (element_text e ++ rest)
 element_starts (p.assigned_element {name = name} {value = value} stage named printable more) rest behind =
     let first = name_first name ((61 ∷ value) ++ rest) named in
@@ -104,7 +104,7 @@ blank_element : (x : bare.Element) (es : List bare.Element) (rest : List ℕ) �
 blank_element x es rest s =
     subst IsBehindWord (sym (append_assoc (32 ∷ element_text x) (tail_text es) rest)) (blank_word (element_text x ++ (tail_text es ++ rest)) s)
 
-pub behind_element : {limit k : ℕ} {g : Stage} {quiet : Bool} {es : List bare.Element} → PrintableElements limit k g quiet es → (rest : List ℕ) → IsTail rest → IsBehindWord (tail_text es ++ rest)
+pub behind_element : {limit k m : ℕ} {g : Stage} {quiet : Bool} {es : List bare.Element} → PrintableElements limit k g quiet m es → (rest : List ℕ) → IsTail rest → IsBehindWord (tail_text es ++ rest)
 behind_element p.no_elements rest tail = tail_word rest tail
 behind_element (p.assigned_element {name = name} {value = value} {es = es} stage named printable more) rest tail =
     blank_element (bare.Assigns name value) es rest (element_starts (p.assigned_element stage named printable more) (tail_text es ++ rest) (behind_element more rest tail))
@@ -121,7 +121,7 @@ over_blank x es rest s =
 abbrev pub redirects_text : List bare.Redirect → List ℕ
 redirects_text qs = flat_map (λ q. 32 ∷ redirect_text q) qs
 
-pub behind_close : {limit k : ℕ} {quiet : Bool} {qs : List bare.Redirect} → PrintableRedirects limit k quiet qs → (rest : List ℕ) → IsTail rest → IsClosed (redirects_text qs ++ rest)
+pub behind_close : {limit k m : ℕ} {quiet : Bool} {qs : List bare.Redirect} → PrintableRedirects limit k quiet m qs → (rest : List ℕ) → IsTail rest → IsClosed (redirects_text qs ++ rest)
 behind_close p.no_redirects rest tail = record { gap = tail.gap; closed = tail.closed }
 behind_close (p.more_redirects {r = q} {rs = qs} printable more) rest tail =
     let s = redirect_starts q (redirects_text qs ++ rest) printable in
@@ -132,7 +132,7 @@ behind_close (p.more_redirects {r = q} {rs = qs} printable more) rest tail =
     }
 
 -- the first element
-pub first_starts : {limit k : ℕ} {g : Stage} {quiet : Bool} {e : bare.Element} {es : List bare.Element} → PrintableElements limit k g quiet (e ∷ es) → (rest : List ℕ) → IsTail rest
+pub first_starts : {limit k m : ℕ} {g : Stage} {quiet : Bool} {e : bare.Element} {es : List bare.Element} → PrintableElements limit k g quiet m (e ∷ es) → (rest : List ℕ) → IsTail rest
     → Starts (element_text e ++ (tail_text es ++ rest))
 first_starts (p.assigned_element {es = es} stage named printable more) rest tail = element_starts (p.assigned_element stage named printable more) (tail_text es ++ rest) (behind_element more rest tail)
 first_starts (p.word_element {es = es} token printable more) rest tail = element_starts (p.word_element token printable more) (tail_text es ++ rest) (behind_element more rest tail)
@@ -141,44 +141,45 @@ first_starts (p.redirect_element {es = es} printable more) rest tail = element_s
 module _ (b : List ℕ) where
   -- Words
 
-  pub record PrintedWord (limit i n k : ℕ) (closed : Bool) (ms : List Mark) (ds : List Document) (role : Role) (form : Form) (w : List ℕ) (rest : List ℕ) : Type 0 where
-    pub count : ℕ
+  pub record PrintedWord (limit m i n k : ℕ) (closed : Bool) (ms : List Mark) (ds : List Document) (role : Role) (form : Form) (w : List ℕ) (rest : List ℕ) : Type 0 where
     pub parts : List Part
-    pub reads : ReadsWord limit b (context_of role b i) (facing (place i n k closed ms ds)) (counted (i + length w) count (facing (place i n k closed ms ds))) (tree.word i (i + length w) parts)
+    pub reads : ReadsWord limit b (context_of role b i) (facing (place i n k closed ms ds)) (counted (i + length w) (n + m) (facing (place i n k closed ms ds))) (tree.word i (i + length w) parts)
     pub form_is : form_of b (tree.word i (i + length w) parts) ≡ form
     pub word_is : word_of b (tree.word i (i + length w) parts) ≡ w
     pub behind : drop (blanks false b (i + length w)) b ≡ front rest
 
-  pub word_print : (limit i n k : ℕ) (closed : Bool) (ms : List Mark) (ds : List Document) (quiet : Bool) (role : Role) (form : Form) (w : List ℕ) (rest : List ℕ) → PrintableWord limit k quiet role form w
-      → (waits ms ≡ true → quiet ≡ true) → drop i b ≡ w ++ rest → IsBehindWord rest → PrintedWord limit i n k closed ms ds role form w rest
+  pub word_print : (limit i n k : ℕ) (closed : Bool) (ms : List Mark) (ds : List Document) (quiet : Bool) (role : Role) (form : Form) (w : List ℕ) (rest : List ℕ) {m : ℕ} → PrintableWord limit k quiet role form m w
+      → (waits ms ≡ true → quiet ≡ true) → drop i b ≡ w ++ rest → IsBehindWord rest → PrintedWord limit m i n k closed ms ds role form w rest
   word_print limit i n k closed ms ds quiet role form w rest printable quietly e behind =
       let read = printable.copied.is_read b rest (facing (place i n k closed ms ds)) e behind (record { depth_is = refl; quiet_only = quietly; joins = refl; tabs = refl }) in
       record {
-        count = read.0;
-        parts = read.1;
-        reads = read.2;
-        form_is = read.3;
+        parts = read.0;
+        reads = read.1;
+        form_is = read.2;
         word_is = text_there b i w rest e;
         behind = fronted b (i + length w) rest (off b i w rest e);
       }
 
   -- Redirections
 
-  pub record PrintedRedirect (limit i n k : ℕ) (closed : Bool) (ms : List Mark) (ds : List Document) (waiting : List bare.Document) (quiet : Bool) (q : bare.Redirect) (rest : List ℕ) : Type 0 where
+  pub record PrintedRedirect (limit held m i n k : ℕ) (closed : Bool) (ms : List Mark) (ds : List Document) (waiting : List bare.Document) (quiet : Bool) (q : bare.Redirect) (rest : List ℕ) : Type 0 where
     pub at : ℕ
     pub count : ℕ
     pub marks : List Mark
-    pub marked : Marked b limit marks (waiting ++ redirect_documents q)
+    -- the commands in what waits
+    pub left : ℕ
+    pub marked : Marked b limit left marks (waiting ++ redirect_documents q)
+    pub total : count + left ≡ n + held + m
     pub quietly : waits marks ≡ true → (quiet || is_here q.opens) ≡ true
     pub behind : drop at b ≡ front rest
     pub begins : (g : Stage) → is_redirection (lead_at b g i) ≡ true
     pub reads : (body : ℕ → Document) → Fits b body (length (so_far b ds waiting)) (redirect_documents q)
         → (x : Redirect) × ReadsRedirect limit b body (place i n k closed ms ds) (place at count k closed marks ds) x × (redirect_of b x ≡ q)
 
-  pub redirect_print : {limit k : ℕ} {quiet : Bool} {q : bare.Redirect} → PrintableRedirect limit k quiet q → (i n : ℕ) (closed : Bool) (ms : List Mark) (ds : List Document) (waiting : List bare.Document) (rest : List ℕ)
-      → Marked b limit ms waiting → (waits ms ≡ true → quiet ≡ true) → drop i b ≡ redirect_text q ++ rest → IsBehindWord rest → PrintedRedirect limit i n k closed ms ds waiting quiet q rest
+  pub redirect_print : {limit k held m : ℕ} {quiet : Bool} {q : bare.Redirect} → PrintableRedirect limit k quiet m q → (i n : ℕ) (closed : Bool) (ms : List Mark) (ds : List Document) (waiting : List bare.Document) (rest : List ℕ)
+      → Marked b limit held ms waiting → (waits ms ≡ true → quiet ≡ true) → drop i b ≡ redirect_text q ++ rest → IsBehindWord rest → PrintedRedirect limit held m i n k closed ms ds waiting quiet q rest
   unfolding context_of is_delimiter delimiter_of
-  redirect_print {limit = limit} {k = k} {quiet = quiet} (p.file {number = number} {direction = direction} {form = form} {w = w} digits token printable) i n closed ms ds waiting rest marked quietly e behind =
+  redirect_print {limit = limit} {k = k} {held = held} {quiet = quiet} (p.file {m = m} {number = number} {direction = direction} {form = form} {w = w} digits token printable) i n closed ms ds waiting rest marked quietly e behind =
       let q : bare.Redirect = record { number = number; opens = bare.File direction; word = w } in
       let begins = redirect_begins b i number (bare.File direction) (w ++ rest) digits (e ∙ redirect_whole q rest) in
       let starts = token_starts w rest token behind in
@@ -188,9 +189,11 @@ module _ (b : List ℕ) where
       let x = tree.word j (j + length w) one.parts in
       record {
         at = blanks false b (j + length w);
-        count = one.count;
+        count = n + m;
         marks = ms;
-        marked = subst (λ ds. Marked b limit ms ds) (sym (append-nil waiting)) marked;
+        left = held;
+        marked = subst (λ ds. Marked b limit held ms ds) (sym (append-nil waiting)) marked;
+        total = (let e : n + m + held ≡ n + held + m = omega arith in e);
         quietly = λ h. or_left quiet false (quietly h);
         behind = one.behind;
         begins = begins.leads;
@@ -202,7 +205,7 @@ module _ (b : List ℕ) where
               ∙ ap (λ m. record { number = m; opens = bare.File direction; word = w }) begins.number_is,
         );
       }
-  redirect_print {limit = limit} {k = k} {quiet = quiet} (p.here_document {number = number} {strip = strip} {document = document} {form = form} {w = w} digits token printable delimits printed) i n closed ms ds waiting rest marked quietly e behind =
+  redirect_print {limit = limit} {k = k} {held = held} {quiet = quiet} (p.here_document {m = m} {n = o} {number = number} {strip = strip} {document = document} {form = form} {w = w} digits token printable delimits printed) i n closed ms ds waiting rest marked quietly e behind =
       let q : bare.Redirect = record { number = number; opens = bare.Here strip document; word = w } in
       let begins = redirect_begins b i number (bare.Here strip document) (w ++ rest) digits (e ∙ redirect_whole q rest) in
       let starts = token_starts w rest token behind in
@@ -211,15 +214,17 @@ module _ (b : List ℕ) where
       let one = word_print limit j n k closed ms ds quiet Unsplit form w rest printable quietly e1 behind in
       let x = tree.word j (j + length w) one.parts in
       let mark = mark_of strip (form_of b x) k in
-      let mine = subst (λ y. p.PrintableDocument limit (mark_of strip y k) document) (sym one.form_is) printed in
+      let mine = subst (λ y. p.PrintableDocument limit (mark_of strip y k) o document) (sym one.form_is) printed in
       let delimiter : is_delimiter b x ≡ true =
       ap (λ y. is_static y.text && not y.dollar_quoted && not (list_any is_newline (word_of b x))) one.form_is
       ∙ ap (λ t. is_static form.text && not form.dollar_quoted && not (list_any is_newline t)) one.word_is ∙ delimits in
       record {
         at = blanks false b (j + length w);
-        count = one.count;
+        count = n + m;
         marks = ms ++ mark ∷ [];
+        left = held + (o + 0);
         marked = marked_join b marked (one_mark mine no_mark);
+        total = (let e : n + m + (held + (o + 0)) ≡ n + held + (m + o) = omega arith in e);
         quietly = λ h. or-true quiet;
         behind = one.behind;
         begins = begins.leads;
@@ -244,28 +249,32 @@ module _ (b : List ℕ) where
   stage_is First w rest i token e behind = ap Named (token.declaring b rest i e behind)
   stage_is Prefixed w rest i token e behind = ap Named (token.declaring b rest i e behind)
 
-  pub record PrintedElements (limit i n k : ℕ) (closed : Bool) (g : Stage) (ms : List Mark) (ds : List Document) (waiting : List bare.Document) (es : List bare.Element) (rest : List ℕ) : Type 0 where
+  pub record PrintedElements (limit held m i n k : ℕ) (closed : Bool) (g : Stage) (ms : List Mark) (ds : List Document) (waiting : List bare.Document) (es : List bare.Element) (rest : List ℕ) : Type 0 where
     pub at : ℕ
     pub count : ℕ
     pub marks : List Mark
-    pub marked : Marked b limit marks (waiting ++ flat_map element_documents es)
+    pub left : ℕ
+    pub marked : Marked b limit left marks (waiting ++ flat_map element_documents es)
+    pub total : count + left ≡ n + held + m
     pub behind : drop at b ≡ front rest
     pub reads : (body : ℕ → Document) → Fits b body (length (so_far b ds waiting)) (flat_map element_documents es)
         → (xs : List Element) × ReadsElements limit b body g (place i n k closed ms ds) (place at count k closed marks ds) xs × (map (element_of b) xs ≡ es)
 
   -- the elements from the token at or after a blank on
-  pub elements_print : {limit k : ℕ} {g : Stage} {quiet : Bool} {es : List bare.Element} → PrintableElements limit k g quiet es → (i n : ℕ) (closed : Bool) (ms : List Mark) (ds : List Document) (waiting : List bare.Document) (rest : List ℕ)
-      → Marked b limit ms waiting → (waits ms ≡ true → quiet ≡ true) → drop i b ≡ front (tail_text es ++ rest) → IsTail rest → PrintedElements limit i n k closed g ms ds waiting es rest
+  pub elements_print : {limit k held m : ℕ} {g : Stage} {quiet : Bool} {es : List bare.Element} → PrintableElements limit k g quiet m es → (i n : ℕ) (closed : Bool) (ms : List Mark) (ds : List Document) (waiting : List bare.Document) (rest : List ℕ)
+      → Marked b limit held ms waiting → (waits ms ≡ true → quiet ≡ true) → drop i b ≡ front (tail_text es ++ rest) → IsTail rest → PrintedElements limit held m i n k closed g ms ds waiting es rest
   unfolding context_of
-  elements_print {limit = limit} {g = g} p.no_elements i n closed ms ds waiting rest marked quietly e tail = record {
+  elements_print {limit = limit} {held = held} {g = g} p.no_elements i n closed ms ds waiting rest marked quietly e tail = record {
     at = i;
     count = n;
     marks = ms;
-    marked = subst (λ ds. Marked b limit ms ds) (sym (append-nil waiting)) marked;
+    left = held;
+    marked = subst (λ ds. Marked b limit held ms ds) (sym (append-nil waiting)) marked;
+    total = (let e : n + held ≡ n + held + 0 = omega arith in e);
     behind = e;
     reads = λ body f. ([], r.no_element (ap begins_simple (lead_there b g i (front rest) e) ∙ tail.ends g), refl);
   }
-  elements_print {limit = limit} {k = k} {g = g} {quiet = quiet} (p.assigned_element {name = name} {value = value} {form = form} {es = es} stage named printable more) i n closed ms ds waiting rest marked quietly e tail =
+  elements_print {limit = limit} {k = k} {g = g} {quiet = quiet} (p.assigned_element {m = m} {name = name} {value = value} {form = form} {es = es} stage named printable more) i n closed ms ds waiting rest marked quietly e tail =
       let later = tail_text es ++ rest in
       let behind = behind_element more rest tail in
       let e1 : drop i b ≡ name ++ 61 ∷ (value ++ later) =
@@ -275,19 +284,21 @@ module _ (b : List ℕ) where
       let e2 : drop v b ≡ value ++ later =
       ap (λ m. drop (m + 1) b) end ∙ one_off b (i + length name) (off b i name (61 ∷ (value ++ later)) e1) in
       let one = printable.copied.is_read b later (to v (facing (place i n k closed ms ds))) e2 behind (record { depth_is = refl; quiet_only = quietly; joins = refl; tabs = refl }) in
-      let x = tree.word v (v + length value) one.1 in
+      let x = tree.word v (v + length value) one.0 in
       let j = blanks false b (v + length value) in
-      let rest_of = elements_print more j one.0 closed ms ds waiting rest marked quietly (fronted b (v + length value) later (off b v value later e2)) tail in
+      let rest_of = elements_print more j (n + m) closed ms ds waiting rest marked quietly (fronted b (v + length value) later (off b v value later e2)) tail in
       record {
         at = rest_of.at;
         count = rest_of.count;
         marks = rest_of.marks;
+        left = rest_of.left;
         marked = rest_of.marked;
+        total = (let all = rest_of.total in omega arith);
         behind = rest_of.behind;
         reads = λ body f.
             let others = rest_of.reads body f in (
               element.Assignment (span i (name_end b i)) x ∷ others.0,
-              r.assigned_element (lead_there b g i (name ++ 61 ∷ (value ++ later)) e1 ∙ assignment_leads g name (value ++ later) stage named) one.2 others.1,
+              r.assigned_element (lead_there b g i (name ++ 61 ∷ (value ++ later)) e1 ∙ assignment_leads g name (value ++ later) stage named) one.1 others.1,
               ap (λ y. y ∷ map (element_of b) others.0) (
                   element_of-Assignment b (span i (name_end b i)) x
                   ∙ ap (λ m. bare.Assigns (text_of b (span i m)) (word_of b x)) end
@@ -296,25 +307,27 @@ module _ (b : List ℕ) where
                   ) ∙ ap (λ ys. bare.Assigns name value ∷ ys) others.2,
             );
       }
-  elements_print {limit = limit} {k = k} {g = g} {quiet = quiet} (p.word_element {w = w} {form = form} {es = es} token printable more) i n closed ms ds waiting rest marked quietly e tail =
+  elements_print {limit = limit} {k = k} {g = g} {quiet = quiet} (p.word_element {m = m} {w = w} {form = form} {es = es} token printable more) i n closed ms ds waiting rest marked quietly e tail =
       let later = tail_text es ++ rest in
       let behind = behind_element more rest tail in
       let e1 : drop i b ≡ w ++ later = e ∙ over_blank (bare.Operand w) es rest (token_starts w later token behind) in
       let one = word_print limit i n k closed ms ds quiet (Field g) form w later printable quietly e1 behind in
       let j = blanks false b (i + length w) in
       let x = tree.word i (i + length w) one.parts in
-      let rest_of = elements_print more j one.count closed ms ds waiting rest marked quietly one.behind tail in
+      let rest_of = elements_print more j (n + m) closed ms ds waiting rest marked quietly one.behind tail in
       record {
         at = rest_of.at;
         count = rest_of.count;
         marks = rest_of.marks;
+        left = rest_of.left;
         marked = rest_of.marked;
+        total = (let all = rest_of.total in omega arith);
         behind = rest_of.behind;
         reads = λ body f.
             let others = rest_of.reads body f in (
               element.Word x ∷ others.0,
               r.word_element (token.is_lead b later i e1 behind) one.reads
-                  (subst (λ h. ReadsElements limit b body h (place j one.count k closed ms ds) (place rest_of.at rest_of.count k closed rest_of.marks ds) others.0) (sym (stage_is g w later i token e1 behind)) others.1),
+                  (subst (λ h. ReadsElements limit b body h (place j (n + m) k closed ms ds) (place rest_of.at rest_of.count k closed rest_of.marks ds) others.0) (sym (stage_is g w later i token e1 behind)) others.1),
               ap (λ y. y ∷ map (element_of b) others.0) (element_of-Word b x ∙ ap bare.Operand one.word_is) ∙ ap (λ ys. bare.Operand w ∷ ys) others.2,
             );
       }
@@ -330,7 +343,9 @@ module _ (b : List ℕ) where
         at = rest_of.at;
         count = rest_of.count;
         marks = rest_of.marks;
-        marked = subst (λ ds. Marked b limit rest_of.marks ds) (append_assoc waiting mine theirs) rest_of.marked;
+        left = rest_of.left;
+        total = (let all = rest_of.total in let first = one.total in omega arith);
+        marked = subst (λ ds. Marked b limit rest_of.left rest_of.marks ds) (append_assoc waiting mine theirs) rest_of.marked;
         behind = rest_of.behind;
         reads = λ body f.
             let parts = fits_parts b (so_far b ds waiting) mine theirs f in
@@ -344,22 +359,26 @@ module _ (b : List ℕ) where
 
   -- Redirections after a compound command
 
-  pub record PrintedRedirects (limit i n k : ℕ) (closed : Bool) (ms : List Mark) (ds : List Document) (waiting : List bare.Document) (qs : List bare.Redirect) (rest : List ℕ) : Type 0 where
+  pub record PrintedRedirects (limit held m i n k : ℕ) (closed : Bool) (ms : List Mark) (ds : List Document) (waiting : List bare.Document) (qs : List bare.Redirect) (rest : List ℕ) : Type 0 where
     pub at : ℕ
     pub count : ℕ
     pub marks : List Mark
-    pub marked : Marked b limit marks (waiting ++ flat_map redirect_documents qs)
+    pub left : ℕ
+    pub marked : Marked b limit left marks (waiting ++ flat_map redirect_documents qs)
+    pub total : count + left ≡ n + held + m
     pub behind : drop at b ≡ front rest
     pub reads : (body : ℕ → Document) → Fits b body (length (so_far b ds waiting)) (flat_map redirect_documents qs)
         → (xs : List Redirect) × ReadsRedirects limit b body (place i n k closed ms ds) (place at count k closed marks ds) xs × (map (redirect_of b) xs ≡ qs)
 
-  pub redirects_print : {limit k : ℕ} {quiet : Bool} {qs : List bare.Redirect} → PrintableRedirects limit k quiet qs → (i n : ℕ) (closed : Bool) (ms : List Mark) (ds : List Document) (waiting : List bare.Document) (rest : List ℕ)
-      → Marked b limit ms waiting → (waits ms ≡ true → quiet ≡ true) → drop i b ≡ front (redirects_text qs ++ rest) → IsTail rest → PrintedRedirects limit i n k closed ms ds waiting qs rest
-  redirects_print {limit = limit} p.no_redirects i n closed ms ds waiting rest marked quietly e tail = record {
+  pub redirects_print : {limit k held m : ℕ} {quiet : Bool} {qs : List bare.Redirect} → PrintableRedirects limit k quiet m qs → (i n : ℕ) (closed : Bool) (ms : List Mark) (ds : List Document) (waiting : List bare.Document) (rest : List ℕ)
+      → Marked b limit held ms waiting → (waits ms ≡ true → quiet ≡ true) → drop i b ≡ front (redirects_text qs ++ rest) → IsTail rest → PrintedRedirects limit held m i n k closed ms ds waiting qs rest
+  redirects_print {limit = limit} {held = held} p.no_redirects i n closed ms ds waiting rest marked quietly e tail = record {
     at = i;
     count = n;
     marks = ms;
-    marked = subst (λ ds. Marked b limit ms ds) (sym (append-nil waiting)) marked;
+    left = held;
+    marked = subst (λ ds. Marked b limit held ms ds) (sym (append-nil waiting)) marked;
+    total = (let e : n + held ≡ n + held + 0 = omega arith in e);
     behind = e;
     reads = λ body f. ([], r.no_redirect (ap is_redirection (lead_there b (Named false) i (front rest) e) ∙ no_redirection _ (tail.ends (Named false))), refl);
   }
@@ -377,7 +396,9 @@ module _ (b : List ℕ) where
         at = rest_of.at;
         count = rest_of.count;
         marks = rest_of.marks;
-        marked = subst (λ ds. Marked b limit rest_of.marks ds) (append_assoc waiting mine theirs) rest_of.marked;
+        left = rest_of.left;
+        total = (let all = rest_of.total in let first = one.total in omega arith);
+        marked = subst (λ ds. Marked b limit rest_of.left rest_of.marks ds) (append_assoc waiting mine theirs) rest_of.marked;
         behind = rest_of.behind;
         reads = λ body f.
             let parts = fits_parts b (so_far b ds waiting) mine theirs f in
@@ -390,7 +411,7 @@ module _ (b : List ℕ) where
       }
 
   -- what a simple command begins with
-  pub elements_begin : {limit k : ℕ} {quiet : Bool} {e : bare.Element} {es : List bare.Element} → PrintableElements limit k First quiet (e ∷ es) → (i : ℕ) (rest : List ℕ) → IsTail rest
+  pub elements_begin : {limit k m : ℕ} {quiet : Bool} {e : bare.Element} {es : List bare.Element} → PrintableElements limit k First quiet m (e ∷ es) → (i : ℕ) (rest : List ℕ) → IsTail rest
       → drop i b ≡ element_text e ++ (tail_text es ++ rest) → begins_simple (lead_at b First i) ≡ true
   unfolding begins_simple
   elements_begin (p.assigned_element {name = name} {value = value} {es = es} stage named printable more) i rest tail e =
@@ -399,6 +420,6 @@ module _ (b : List ℕ) where
       ap begins_simple (token.is_lead b (tail_text es ++ rest) i e (behind_element more rest tail))
   elements_begin (p.redirect_element {r = q} {es = es} printable more) i rest tail e = begins q (tail_text es ++ rest) printable e
     where
-      begins : {limit k : ℕ} {quiet : Bool} (q : bare.Redirect) (later : List ℕ) → PrintableRedirect limit k quiet q → drop i b ≡ redirect_text q ++ later → begins_simple (lead_at b First i) ≡ true
+      begins : {limit k m : ℕ} {quiet : Bool} (q : bare.Redirect) (later : List ℕ) → PrintableRedirect limit k quiet m q → drop i b ≡ redirect_text q ++ later → begins_simple (lead_at b First i) ≡ true
       begins q later (p.file {w = w} digits token printable) e = redirection_is_simple _ ((redirect_begins b i q.number q.opens (w ++ later) digits (e ∙ redirect_whole q later)).leads First)
       begins q later (p.here_document {w = w} digits token printable delimits printed) e = redirection_is_simple _ ((redirect_begins b i q.number q.opens (w ++ later) digits (e ∙ redirect_whole q later)).leads First)

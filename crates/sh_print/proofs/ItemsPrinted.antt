@@ -1,5 +1,5 @@
 -- Printed items and lists are read, given that the pipelines in them are.
-use Rattle.std.proofs.Common.{◌≡◌, ℕ, ◌+◌, Bool, true, false, Some, None, List, [], ◌∷◌, ◌++◌, length, drop, codes, refl, sym, ap, subst, ◌∙◌, append_assoc, append-nil}
+use Rattle.std.proofs.Common.{◌≡◌, ℕ, ◌+◌, Bool, true, false, Some, None, List, [], ◌∷◌, ◌++◌, length, drop, codes, refl, sym, ap, subst, ◌∙◌, append_assoc, append-nil, arith}
 use Rattle.std.specs.List.{flat_map}
 use Rattle.sh_tree.specs.declared.tree.Item.{Item}
 use Rattle.sh_tree.specs.declared.tree.Link.{Link}
@@ -93,27 +93,29 @@ links_pipe_tail d waiting (bare.more_links l x links) background rest =
 module _ (b : List ℕ) where
   -- The further pipelines of an item
 
-  pub record PrintedLinks (limit i n k : ℕ) (closed : Bool) (ms : List Mark) (ds : List Document) (waiting : List bare.Document) (links : bare.Links) (background : Bool) (rest : List ℕ) : Type 0 where
+  pub record PrintedLinks (limit held m i n k : ℕ) (closed : Bool) (ms : List Mark) (ds : List Document) (waiting : List bare.Document) (links : bare.Links) (background : Bool) (rest : List ℕ) : Type 0 where
     pub at : ℕ
     pub count : ℕ
     pub ended : Bool
     pub marks : List Mark
     pub bodies : List Document
     pub met : List bare.Document
-    pub marked : Marked b limit marks (links_pending waiting links)
+    pub left : ℕ
+    pub marked : Marked b limit left marks (links_pending waiting links)
+    pub total : count + left ≡ n + held + m
     pub kept : so_far b bodies (links_pending waiting links) ≡ so_far b ds waiting ++ met
     pub behind : drop at b ≡ front (background_text background ++ (line_end (links_pending waiting links) ++ rest))
     pub reads : (body : ℕ → Document) → Fits b body (length (so_far b ds waiting)) met
         → (xs : List (Link × Pipe)) × ReadsLinks limit b body (place i n k closed ms ds) (place at count k ended marks bodies) xs × (links_from b xs ≡ links)
 
-  pub record PrintsLinks (limit k d : ℕ) (links : bare.Links) : Type 0 where
-    pub print : (i n : ℕ) (closed : Bool) (ms : List Mark) (ds : List Document) (waiting : List bare.Document) (background : Bool) (rest : List ℕ) → Marked b limit ms waiting
-        → drop i b ≡ front (links_text d waiting links background ++ rest) → PrintedLinks limit i n k closed ms ds waiting links background rest
+  pub record PrintsLinks (limit k d m : ℕ) (links : bare.Links) : Type 0 where
+    pub print : (i n : ℕ) (closed : Bool) (ms : List Mark) (ds : List Document) (waiting : List bare.Document) (background : Bool) (rest : List ℕ) (held : ℕ) → Marked b limit held ms waiting
+        → drop i b ≡ front (links_text d waiting links background ++ rest) → PrintedLinks limit held m i n k closed ms ds waiting links background rest
 
-  pub no_links_print : {limit k : ℕ} (d : ℕ) → PrintsLinks limit k d bare.no_links
+  pub no_links_print : {limit k : ℕ} (d : ℕ) → PrintsLinks limit k d 0 bare.no_links
   unfolding items_text links_pending links_from
   no_links_print d = record {
-    print = λ i n closed ms ds waiting background rest marked e.
+    print = λ i n closed ms ds waiting background rest held marked e.
         let here = e ∙ ap front (end_text background waiting rest) in
         record {
           at = i;
@@ -122,17 +124,19 @@ module _ (b : List ℕ) where
           marks = ms;
           bodies = ds;
           met = [];
+          left = held;
           marked = marked;
+          total = (let none : n + held ≡ n + held + 0 = omega arith in none);
           kept = sym (append-nil (so_far b ds waiting));
           behind = here;
           reads = λ body f. ([], r.no_link (ap link_of (lead_there b First i _ here) ∙ (end_stands background (flat_map document_text waiting ++ rest)).no_link), refl);
         };
   }
 
-  pub more_links_print : {limit k : ℕ} {x : bare.Pipeline} {links : bare.Links} (d : ℕ) (l : Link) → PrintsPipeline b limit k d x → PrintsLinks limit k d links → PrintsLinks limit k d (bare.more_links l x links)
+  pub more_links_print : {limit k m o : ℕ} {x : bare.Pipeline} {links : bare.Links} (d : ℕ) (l : Link) → PrintsPipeline b limit k d m x → PrintsLinks limit k d o links → PrintsLinks limit k d (m + o) (bare.more_links l x links)
   unfolding links_pending links_from
   more_links_print {limit = limit} {k = k} {x = x} {links = links} d l one others = record {
-    print = λ i n closed ms ds waiting background rest marked e.
+    print = λ i n closed ms ds waiting background rest held marked e.
         let after = links_text d (pipeline_pending x) links background ++ rest in
         let text = pipeline_text d x ++ after in
         let inner = join d waiting ++ text in
@@ -143,7 +147,7 @@ module _ (b : List ℕ) where
         let q = join_print b marked (i + 2) n k closed ds d text (ap (λ m. drop (i + m) b) (sym s.long) ∙ off b i (link_sign l) inner here)
         (ap (λ t. is_newline_lead (lead_at t First 0)) starts.front_is ∙ begins_straight _ starts.begins) in
         let p = one.print q.at q.count closed q.bodies after (q.behind ∙ starts.front_is) tail in
-        let two = others.print p.at p.count p.ended p.marks p.bodies (pipeline_pending x) background rest p.marked p.behind in
+        let two = others.print p.at p.count p.ended p.marks p.bodies (pipeline_pending x) background rest p.left p.marked p.behind in
         let first_kept = p.kept ∙ ap (λ t. t ++ p.met) q.kept in
         record {
           at = two.at;
@@ -152,7 +156,9 @@ module _ (b : List ℕ) where
           marks = two.marks;
           bodies = two.bodies;
           met = p.met ++ two.met;
+          left = two.left;
           marked = two.marked;
+          total = (let all = two.total in let second = p.total in let first = q.total in omega arith);
           kept = kept_both (so_far b ds waiting) (so_far b p.bodies (pipeline_pending x)) (so_far b two.bodies (links_pending (pipeline_pending x) links)) p.met two.met first_kept two.kept;
           behind = two.behind;
           reads = λ body f.
@@ -169,7 +175,7 @@ module _ (b : List ℕ) where
   -- Items
 
   -- an and-or list, what ends it, and the next token
-  record PrintedItem (limit i n k : ℕ) (closed : Bool) (ds : List Document) (first : bare.Pipeline) (links : bare.Links) (background : Bool) (rest : List ℕ) : Type 0 where
+  record PrintedItem (limit m i n k : ℕ) (closed : Bool) (ds : List Document) (first : bare.Pipeline) (links : bare.Links) (background : Bool) (rest : List ℕ) : Type 0 where
     at : ℕ
     count : ℕ
     ended : Bool
@@ -181,15 +187,16 @@ module _ (b : List ℕ) where
     separates : separator (lead_here b end) ≡ Some background
     breaks : ReadsBreaks limit b (parted b end) (place at count k ended [] bodies)
     to_end : rest ≡ [] → at ≡ length b
+    total : count ≡ n + m
     reads : (body : ℕ → Document) → Fits b body (length (so_far b ds [])) met
         → (p : Pipe) × (ps : List (Link × Pipe)) × ReadsAndOr limit b body (place i n k closed [] ds) end (tree.and_or p ps) × (pipeline_of b p ≡ first) × (links_from b ps ≡ links)
 
-  item_print : {limit k : ℕ} {first : bare.Pipeline} {links : bare.Links} (d : ℕ) → PrintsPipeline b limit k d first → PrintsLinks limit k d links → (i n : ℕ) (closed : Bool) (ds : List Document) (background : Bool) (rest : List ℕ)
-      → drop i b ≡ pipeline_text d first ++ (links_text d (pipeline_pending first) links background ++ rest) → is_newline_lead (lead_at (front rest) First 0) ≡ false → PrintedItem limit i n k closed ds first links background rest
+  item_print : {limit k m o : ℕ} {first : bare.Pipeline} {links : bare.Links} (d : ℕ) → PrintsPipeline b limit k d m first → PrintsLinks limit k d o links → (i n : ℕ) (closed : Bool) (ds : List Document) (background : Bool) (rest : List ℕ)
+      → drop i b ≡ pipeline_text d first ++ (links_text d (pipeline_pending first) links background ++ rest) → is_newline_lead (lead_at (front rest) First 0) ≡ false → PrintedItem limit (m + o) i n k closed ds first links background rest
   item_print {limit = limit} {k = k} {first = first} {links = links} d one others i n closed ds background rest e straight =
       let after = links_text d (pipeline_pending first) links background ++ rest in
       let p = one.print i n closed ds after e (links_pipe_tail d (pipeline_pending first) links background rest) in
-      let two = others.print p.at p.count p.ended p.marks p.bodies (pipeline_pending first) background rest p.marked p.behind in
+      let two = others.print p.at p.count p.ended p.marks p.bodies (pipeline_pending first) background rest p.left p.marked p.behind in
       let q = end_print b two.marked two.at two.count k two.ended two.bodies background rest two.behind straight in
       record {
         at = q.at;
@@ -203,6 +210,7 @@ module _ (b : List ℕ) where
         separates = q.separates;
         breaks = q.reads;
         to_end = q.to_end;
+        total = (let all = q.total in let second = two.total in let first = p.total in omega arith);
         reads = λ body f.
             let parts = fits_both b (so_far b ds []) (so_far b p.bodies (pipeline_pending first)) p.met two.met p.kept f in
             let y = p.reads body parts.0 in
@@ -210,7 +218,7 @@ module _ (b : List ℕ) where
             (y.0, ys.0, r.linked y.1 ys.1, y.2, ys.2);
       }
 
-  pub record PrintedItems (limit i n k : ℕ) (closed : Bool) (ds : List Document) (items : bare.Items) (rest : List ℕ) : Type 0 where
+  pub record PrintedItems (limit m i n k : ℕ) (closed : Bool) (ds : List Document) (items : bare.Items) (rest : List ℕ) : Type 0 where
     pub at : ℕ
     pub count : ℕ
     pub ended : Bool
@@ -219,12 +227,13 @@ module _ (b : List ℕ) where
     pub kept : so_far b bodies [] ≡ so_far b ds [] ++ met
     pub behind : drop at b ≡ front rest
     pub to_end : rest ≡ [] → at ≡ length b
+    pub total : count ≡ n + m
     pub reads : (body : ℕ → Document) → Fits b body (length (so_far b ds [])) met
         → (is : List Item) × ReadsItems limit b body (place i n k closed [] ds) (place at count k ended [] bodies) is × (items_from b is ≡ items)
 
-  pub record PrintsItems (limit k d : ℕ) (items : bare.Items) : Type 0 where
+  pub record PrintsItems (limit k d m : ℕ) (items : bare.Items) : Type 0 where
     pub begins : (rest : List ℕ) → begins_pipeline (lead_at (front (items_text d items ++ rest)) First 0) ≡ true
-    pub print : (i n : ℕ) (closed : Bool) (ds : List Document) (rest : List ℕ) → drop i b ≡ front (items_text d items ++ rest) → IsStop rest → PrintedItems limit i n k closed ds items rest
+    pub print : (i n : ℕ) (closed : Bool) (ds : List Document) (rest : List ℕ) → drop i b ≡ front (items_text d items ++ rest) → IsStop rest → PrintedItems limit m i n k closed ds items rest
 
   item_text : (d : ℕ) (first : bare.Pipeline) (links : bare.Links) (background : Bool) (items : bare.Items) (rest : List ℕ)
       → items_text d (bare.more_items first links background items) ++ rest ≡ tabs d ++ (pipeline_text d first ++ (links_text d (pipeline_pending first) links background ++ (items_text d items ++ rest)))
@@ -235,21 +244,21 @@ module _ (b : List ℕ) where
       ∙ ap (λ t. tabs d ++ t) (append_assoc (pipeline_text d first) (ends ++ items_text d items) rest ∙ ap (λ t. pipeline_text d first ++ t) (append_assoc ends (items_text d items) rest))
 
   -- the first item's text, at the token after its tabs
-  item_front : {limit k : ℕ} {first : bare.Pipeline} (d : ℕ) → PrintsPipeline b limit k d first → (links : bare.Links) (background : Bool) (items : bare.Items) (rest : List ℕ)
+  item_front : {limit k m : ℕ} {first : bare.Pipeline} (d : ℕ) → PrintsPipeline b limit k d m first → (links : bare.Links) (background : Bool) (items : bare.Items) (rest : List ℕ)
       → front (items_text d (bare.more_items first links background items) ++ rest) ≡ pipeline_text d first ++ (links_text d (pipeline_pending first) links background ++ (items_text d items ++ rest))
   item_front {first = first} d one links background items rest =
       let text = pipeline_text d first ++ (links_text d (pipeline_pending first) links background ++ (items_text d items ++ rest)) in
       ap front (item_text d first links background items rest) ∙ front_tabs d text
       ∙ (one.starts (links_text d (pipeline_pending first) links background ++ (items_text d items ++ rest)) (links_tail d (pipeline_pending first) links background (items_text d items ++ rest))).front_is
 
-  item_begins : {limit k : ℕ} {first : bare.Pipeline} (d : ℕ) → PrintsPipeline b limit k d first → (links : bare.Links) (background : Bool) (items : bare.Items) (rest : List ℕ)
+  item_begins : {limit k m : ℕ} {first : bare.Pipeline} (d : ℕ) → PrintsPipeline b limit k d m first → (links : bare.Links) (background : Bool) (items : bare.Items) (rest : List ℕ)
       → begins_pipeline (lead_at (front (items_text d (bare.more_items first links background items) ++ rest)) First 0) ≡ true
   item_begins {first = first} d one links background items rest =
       ap (λ t. begins_pipeline (lead_at t First 0)) (item_front d one links background items rest)
       ∙ (one.starts (links_text d (pipeline_pending first) links background ++ (items_text d items ++ rest)) (links_tail d (pipeline_pending first) links background (items_text d items ++ rest))).begins
 
-  pub last_item_prints : {limit k : ℕ} {first : bare.Pipeline} {links : bare.Links} (d : ℕ) (background : Bool) → PrintsPipeline b limit k d first → PrintsLinks limit k d links
-      → PrintsItems limit k d (bare.more_items first links background bare.no_items)
+  pub last_item_prints : {limit k m o : ℕ} {first : bare.Pipeline} {links : bare.Links} (d : ℕ) (background : Bool) → PrintsPipeline b limit k d m first → PrintsLinks limit k d o links
+      → PrintsItems limit k d (m + o) (bare.more_items first links background bare.no_items)
   unfolding items_text items_from
   last_item_prints {first = first} {links = links} d background one others = record {
     begins = item_begins d one links background bare.no_items;
@@ -264,6 +273,7 @@ module _ (b : List ℕ) where
           kept = p.kept;
           behind = p.behind;
           to_end = p.to_end;
+          total = p.total;
           reads = λ body f. let x = p.reads body f in (
             tree.item (tree.and_or x.0 x.1) background ∷ [],
             r.ended_item x.2 p.separates p.breaks (ap begins_pipeline (lead_there b First p.at (front rest) p.behind) ∙ stop.none),
@@ -272,8 +282,8 @@ module _ (b : List ℕ) where
         };
   }
 
-  pub more_items_print : {limit k : ℕ} {first : bare.Pipeline} {links : bare.Links} {items : bare.Items} (d : ℕ) (background : Bool) → PrintsPipeline b limit k d first → PrintsLinks limit k d links → PrintsItems limit k d items
-      → PrintsItems limit k d (bare.more_items first links background items)
+  pub more_items_print : {limit k m o later : ℕ} {first : bare.Pipeline} {links : bare.Links} {items : bare.Items} (d : ℕ) (background : Bool) → PrintsPipeline b limit k d m first → PrintsLinks limit k d o links → PrintsItems limit k d later items
+      → PrintsItems limit k d (m + o + later) (bare.more_items first links background items)
   more_items_print {first = first} {links = links} {items = items} d background one others more = record {
     begins = item_begins d one links background items;
     print = λ i n closed ds rest e stop.
@@ -290,6 +300,7 @@ module _ (b : List ℕ) where
           kept = kept_both (so_far b ds []) (so_far b p.bodies []) (so_far b two.bodies []) p.met two.met p.kept two.kept;
           behind = two.behind;
           to_end = two.to_end;
+          total = (let all = two.total in let first = p.total in omega arith);
           reads = λ body f.
               let parts = fits_both b (so_far b ds []) (so_far b p.bodies []) p.met two.met p.kept f in
               let x = p.reads body parts.0 in
@@ -304,7 +315,7 @@ module _ (b : List ℕ) where
 
   -- Lists
 
-  pub list_prints : {limit k d : ℕ} {items : bare.Items} → PrintsItems limit k d items → PrintsList b limit k d items
+  pub list_prints : {limit k d m : ℕ} {items : bare.Items} → PrintsItems limit k d m items → PrintsList b limit k d m items
   list_prints {limit = limit} {k = k} {d = d} {items = items} printed = record {
     print = λ i n closed ds rest e stop.
         let text = items_text d items ++ rest in
@@ -319,6 +330,7 @@ module _ (b : List ℕ) where
           met = p.met;
           kept = p.kept ∙ ap (λ t. t ++ p.met) q.kept;
           behind = p.behind;
+          total = (let all = p.total in let first = q.total in omega arith);
           reads = λ body f.
               let is = p.reads body (subst (λ t. Fits b body (length t) p.met) (sym q.kept) f) in
               (tree.script is.0, r.list q.reads (ap begins_pipeline (lead_there b First q.at (front text) q.behind) ∙ begins) is.1, script_made b is.0 ∙ is.2);

@@ -1,6 +1,6 @@
 -- What is between printed commands is read: the end of an item, and what follows `|`, `&&` and
 -- `||`.
-use Rattle.std.proofs.Common.{◌≡◌, ℕ, ◌+◌, Bool, true, false, if◌then◌else◌, Some, List, [], ◌∷◌, ◌++◌, length, drop, codes, refl, sym, ap, subst, ◌∙◌, append_assoc}
+use Rattle.std.proofs.Common.{◌≡◌, ℕ, ◌+◌, Bool, true, false, if◌then◌else◌, Some, List, [], ◌∷◌, ◌++◌, length, drop, codes, refl, sym, ap, subst, ◌∙◌, arith, append_assoc}
 use Rattle.std.specs.List.{flat_map}
 use Rattle.std.proofs.lemmas.Bool.{true≢false}
 use Rattle.sh_tree.specs.declared.tree.Link.TheVariants as link
@@ -76,17 +76,18 @@ begins_straight lead.Newline h = absurd (true≢false (sym h))
 begins_straight l h = refl
 
 module _ (b : List ℕ) where
-  pub record PrintedJoin (limit i n k : ℕ) (closed : Bool) (ms : List Mark) (ds : List Document) (waiting : List bare.Document) (rest : List ℕ) : Type 0 where
+  pub record PrintedJoin (limit held i n k : ℕ) (closed : Bool) (ms : List Mark) (ds : List Document) (waiting : List bare.Document) (rest : List ℕ) : Type 0 where
     pub at : ℕ
     pub count : ℕ
     pub bodies : List Document
     pub reads : ReadsBreaks limit b (place (blanks false b i) n k closed ms ds) (place at count k closed [] bodies)
     pub behind : drop at b ≡ front rest
     pub kept : so_far b bodies [] ≡ so_far b ds waiting
+    pub total : count ≡ n + held
 
   -- after `|`, `&&` or `||`
-  pub join_print : {limit : ℕ} {ms : List Mark} {waiting : List bare.Document} → Marked b limit ms waiting → (i n k : ℕ) (closed : Bool) (ds : List Document) (d : ℕ) (rest : List ℕ)
-      → drop i b ≡ join d waiting ++ rest → is_newline_lead (lead_at (front rest) First 0) ≡ false → PrintedJoin limit i n k closed ms ds waiting rest
+  pub join_print : {limit held : ℕ} {ms : List Mark} {waiting : List bare.Document} → Marked b limit held ms waiting → (i n k : ℕ) (closed : Bool) (ds : List Document) (d : ℕ) (rest : List ℕ)
+      → drop i b ≡ join d waiting ++ rest → is_newline_lead (lead_at (front rest) First 0) ≡ false → PrintedJoin limit held i n k closed ms ds waiting rest
   join_print no_mark i n k closed ds d rest e straight =
       let behind = fronted b i (32 ∷ rest) e ∙ front_blank 32 rest refl in
       record {
@@ -96,6 +97,7 @@ module _ (b : List ℕ) where
         reads = r.no_break (ap is_newline_lead (lead_there b First (blanks false b i) (front rest) behind) ∙ straight);
         behind = behind;
         kept = refl;
+        total = (let e : n ≡ n + 0 = omega arith in e);
       }
   join_print {limit = limit} {ms = m ∷ ms} {waiting = x ∷ waiting} (one_mark document marked) i n k closed ds d rest e straight =
       let text = flat_map document_text (x ∷ waiting) in
@@ -110,9 +112,10 @@ module _ (b : List ℕ) where
         reads = p.reads;
         behind = p.behind ∙ front_tabs d rest;
         kept = p.kept;
+        total = p.total;
       }
 
-  pub record PrintedEnd (limit i n k : ℕ) (closed : Bool) (ms : List Mark) (ds : List Document) (waiting : List bare.Document) (background : Bool) (rest : List ℕ) : Type 0 where
+  pub record PrintedEnd (limit held i n k : ℕ) (closed : Bool) (ms : List Mark) (ds : List Document) (waiting : List bare.Document) (background : Bool) (rest : List ℕ) : Type 0 where
     pub at : ℕ
     pub count : ℕ
     pub bodies : List Document
@@ -121,10 +124,11 @@ module _ (b : List ℕ) where
     pub behind : drop at b ≡ front rest
     pub kept : so_far b bodies [] ≡ so_far b ds waiting
     pub to_end : rest ≡ [] → at ≡ length b
+    pub total : count ≡ n + held
 
   -- after an item
-  pub end_print : {limit : ℕ} {ms : List Mark} {waiting : List bare.Document} → Marked b limit ms waiting → (i n k : ℕ) (closed : Bool) (ds : List Document) (background : Bool) (rest : List ℕ)
-      → drop i b ≡ front (background_text background ++ (line_end waiting ++ rest)) → is_newline_lead (lead_at (front rest) First 0) ≡ false → PrintedEnd limit i n k closed ms ds waiting background rest
+  pub end_print : {limit held : ℕ} {ms : List Mark} {waiting : List bare.Document} → Marked b limit held ms waiting → (i n k : ℕ) (closed : Bool) (ds : List Document) (background : Bool) (rest : List ℕ)
+      → drop i b ≡ front (background_text background ++ (line_end waiting ++ rest)) → is_newline_lead (lead_at (front rest) First 0) ≡ false → PrintedEnd limit held i n k closed ms ds waiting background rest
   unfolding separator
   end_print {limit = limit} {ms = ms} {waiting = waiting} marked i n k closed ds false rest e straight =
       let text = flat_map document_text waiting ++ rest in
@@ -142,6 +146,7 @@ module _ (b : List ℕ) where
         behind = p.behind;
         kept = p.kept;
         to_end = p.to_end;
+        total = p.total;
       }
   end_print {limit = limit} {ms = ms} {waiting = waiting} marked i n k closed ds true rest e straight =
       let text = flat_map document_text waiting ++ rest in
@@ -160,4 +165,5 @@ module _ (b : List ℕ) where
         behind = p.behind;
         kept = p.kept;
         to_end = p.to_end;
+        total = p.total;
       }

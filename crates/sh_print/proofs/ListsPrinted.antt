@@ -65,7 +65,7 @@ fits_both b {body} x y m n h f =
 
 module _ (b : List ℕ) where
   -- a newline and a list, from its newline to the token after it
-  pub record PrintedList (limit i n k : ℕ) (closed : Bool) (ds : List Document) (items : bare.Items) (rest : List ℕ) : Type 0 where
+  pub record PrintedList (limit m i n k : ℕ) (closed : Bool) (ds : List Document) (items : bare.Items) (rest : List ℕ) : Type 0 where
     pub at : ℕ
     pub count : ℕ
     pub ended : Bool
@@ -73,22 +73,23 @@ module _ (b : List ℕ) where
     pub met : List bare.Document
     pub kept : so_far b bodies [] ≡ so_far b ds [] ++ met
     pub behind : drop at b ≡ front rest
+    pub total : count ≡ n + m
     pub reads : (body : ℕ → Document) → Fits b body (length (so_far b ds [])) met
         → (t : Script) × ReadsList limit b body (place i n k closed [] ds) (place at count k ended [] bodies) t × (script_of b t ≡ items)
 
   -- so deep, with so many tabs before its items
-  pub record PrintsList (limit k d : ℕ) (items : bare.Items) : Type 0 where
-    pub print : (i n : ℕ) (closed : Bool) (ds : List Document) (rest : List ℕ) → drop i b ≡ 10 ∷ (items_text d items ++ rest) → IsStop rest → PrintedList limit i n k closed ds items rest
+  pub record PrintsList (limit k d m : ℕ) (items : bare.Items) : Type 0 where
+    pub print : (i n : ℕ) (closed : Bool) (ds : List Document) (rest : List ℕ) → drop i b ≡ 10 ∷ (items_text d items ++ rest) → IsStop rest → PrintedList limit m i n k closed ds items rest
 
   -- a list after an opening word, from the end of that word
-  pub block_print : {limit k d : ℕ} {items : bare.Items} → PrintsList limit k d items → (w : List ℕ) (i n : ℕ) (closed : Bool) (ds : List Document) (rest : List ℕ)
-      → drop i b ≡ w ++ 10 ∷ (items_text d items ++ rest) → IsStop rest → PrintedList limit (blanks false b (i + length w)) n k closed ds items rest
+  pub block_print : {limit k d m : ℕ} {items : bare.Items} → PrintsList limit k d m items → (w : List ℕ) (i n : ℕ) (closed : Bool) (ds : List Document) (rest : List ℕ)
+      → drop i b ≡ w ++ 10 ∷ (items_text d items ++ rest) → IsStop rest → PrintedList limit m (blanks false b (i + length w)) n k closed ds items rest
   block_print {d = d} {items = items} p w i n closed ds rest e stop =
       let text = items_text d items ++ rest in
       p.print (blanks false b (i + length w)) n closed ds rest (fronted b (i + length w) (10 ∷ text) (off b i w (10 ∷ text) e) ∙ front_none 10 text refl refl refl) stop
 
   -- `do`, a list and `done`
-  pub record PrintedDo (limit i n k : ℕ) (closed : Bool) (ds : List Document) (items : bare.Items) (rest : List ℕ) : Type 0 where
+  pub record PrintedDo (limit m i n k : ℕ) (closed : Bool) (ds : List Document) (items : bare.Items) (rest : List ℕ) : Type 0 where
     pub at : ℕ
     pub count : ℕ
     pub ended : Bool
@@ -96,11 +97,12 @@ module _ (b : List ℕ) where
     pub met : List bare.Document
     pub kept : so_far b bodies [] ≡ so_far b ds [] ++ met
     pub behind : drop at b ≡ front rest
+    pub total : count ≡ n + m
     pub reads : (body : ℕ → Document) → Fits b body (length (so_far b ds [])) met
         → (t : Script) × ReadsDo limit b body (place i n k closed [] ds) (place at count k ended [] bodies) t × (script_of b t ≡ items)
 
-  pub do_print : {limit k : ℕ} {items : bare.Items} (d : ℕ) → PrintsList limit k (d + 1) items → (i n : ℕ) (closed : Bool) (ds : List Document) (rest : List ℕ)
-      → drop i b ≡ block d (codes "do") (items_text (d + 1) items) ++ (codes "done" ++ rest) → Gap rest → PrintedDo limit i n k closed ds items rest
+  pub do_print : {limit k m : ℕ} {items : bare.Items} (d : ℕ) → PrintsList limit k (d + 1) m items → (i n : ℕ) (closed : Bool) (ds : List Document) (rest : List ℕ)
+      → drop i b ≡ block d (codes "do") (items_text (d + 1) items) ++ (codes "done" ++ rest) → Gap rest → PrintedDo limit m i n k closed ds items rest
   unfolding reserved_text begins_pipeline begins_command begins_simple begins_compound is_redirection
   do_print {items = items} d p i n closed ds rest e gap =
       let tail = tabs d ++ (codes "done" ++ rest) in
@@ -115,6 +117,7 @@ module _ (b : List ℕ) where
         met = one.met;
         kept = one.kept;
         behind = fronted b (one.at + 4) rest (off b one.at (codes "done") rest there);
+        total = one.total;
         reads = λ body f. let t = one.reads body f in (
           t.0,
           r.do_group (lead_there b First i _ e1 ∙ reserved_leads word.Do (10 ∷ (items_text (d + 1) items ++ tail)) line) t.1 (lead_there b First one.at _ there ∙ reserved_leads word.Done rest gap),

@@ -1,5 +1,5 @@
 -- A printed loop over words is read, given that the list in it is.
-use Rattle.std.proofs.Common.{◌≡◌, ℕ, ◌+◌, ◌<◌, Bool, true, false, Option, Some, None, List, [], ◌∷◌, ◌++◌, length, drop, map, codes, refl, sym, ap, subst, ◌∙◌, append_assoc}
+use Rattle.std.proofs.Common.{◌≡◌, ℕ, ◌+◌, ◌<◌, Bool, true, false, Option, Some, None, List, [], ◌∷◌, ◌++◌, length, drop, map, codes, refl, sym, ap, subst, ◌∙◌, append_assoc, arith}
 use Rattle.std.specs.List.{flat_map}
 use Rattle.sh_copies.specs.Copied.{Field, context_of, IsBehindWord}
 use Rattle.sh_tree.specs.declared.tree.Kind.TheVariants as kind
@@ -43,33 +43,34 @@ module _ (b : List ℕ) where
   abbrev words_text : List Text → List ℕ
   words_text ws = flat_map (λ w. 32 ∷ w) ws
 
-  behind_words : {limit k : ℕ} {ws : List Text} → PrintableWords limit k ws → (cs : List ℕ) → IsBehindWord (words_text ws ++ 10 ∷ cs)
+  behind_words : {limit k m : ℕ} {ws : List Text} → PrintableWords limit k m ws → (cs : List ℕ) → IsBehindWord (words_text ws ++ 10 ∷ cs)
   behind_words p.no_words cs = gap_word (10 ∷ cs) line (line_tail cs).closed
   behind_words (p.more_words {w = w} {ws = ws} token printable more) cs =
       subst IsBehindWord (sym (append_assoc (32 ∷ w) (words_text ws) (10 ∷ cs)))
       (blank_word (w ++ (words_text ws ++ 10 ∷ cs)) (token_starts w (words_text ws ++ 10 ∷ cs) token (behind_words more cs)))
 
-  record PrintedWords (limit i n k : ℕ) (closed : Bool) (ds : List Document) (ws : List Text) (cs : List ℕ) : Type 0 where
+  record PrintedWords (limit m i n k : ℕ) (closed : Bool) (ds : List Document) (ws : List Text) (cs : List ℕ) : Type 0 where
     at : ℕ
     count : ℕ
     behind : drop at b ≡ 10 ∷ cs
     words : List Word
     reads : ReadsWords limit b (place i n k closed [] ds) (place at count k closed [] ds) words
     same : map (word_of b) words ≡ ws
+    total : count ≡ n + m
 
-  words_print : {limit k : ℕ} {ws : List Text} → PrintableWords limit k ws → (i n : ℕ) (closed : Bool) (ds : List Document) (cs : List ℕ) → drop i b ≡ front (words_text ws ++ 10 ∷ cs)
-      → PrintedWords limit i n k closed ds ws cs
+  words_print : {limit k m : ℕ} {ws : List Text} → PrintableWords limit k m ws → (i n : ℕ) (closed : Bool) (ds : List Document) (cs : List ℕ) → drop i b ≡ front (words_text ws ++ 10 ∷ cs)
+      → PrintedWords limit m i n k closed ds ws cs
   unfolding context_of in_stage
   words_print p.no_words i n closed ds cs e =
       let here : drop i b ≡ 10 ∷ cs = e ∙ front_none 10 cs refl refl refl in
-      record { at = i; count = n; behind = here; words = []; reads = r.no_word (ap is_word (lead_there b (Named false) i (10 ∷ cs) here ∙ newline_leads (Named false) cs)); same = refl }
-  words_print {limit = limit} {k = k} (p.more_words {w = w} {ws = ws} {form = form} token printable more) i n closed ds cs e =
+      record { at = i; count = n; behind = here; words = []; reads = r.no_word (ap is_word (lead_there b (Named false) i (10 ∷ cs) here ∙ newline_leads (Named false) cs)); same = refl; total = (let e : n ≡ n + 0 = omega arith in e) }
+  words_print {limit = limit} {k = k} (p.more_words {m = m} {w = w} {ws = ws} {form = form} token printable more) i n closed ds cs e =
       let later = words_text ws ++ 10 ∷ cs in
       let behind = behind_words more cs in
       let e1 : drop i b ≡ w ++ later = e ∙ ap front (append_assoc (32 ∷ w) (words_text ws) (10 ∷ cs)) ∙ front_blank 32 (w ++ later) refl ∙ (token_starts w later token behind).front_is in
       let one = word_print b limit i n k closed [] ds false (Field (Named false)) form w later printable no_waits e1 behind in
       let x = tree.word i (i + length w) one.parts in
-      let others = words_print more (blanks false b (i + length w)) one.count closed ds cs one.behind in
+      let others = words_print more (blanks false b (i + length w)) (n + m) closed ds cs one.behind in
       record {
         at = others.at;
         count = others.count;
@@ -77,10 +78,11 @@ module _ (b : List ℕ) where
         words = x ∷ others.words;
         reads = r.more_words (ap is_word (token.is_lead b later i e1 behind)) one.reads others.reads;
         same = ap (λ t. t ∷ map (word_of b) others.words) one.word_is ∙ ap (λ ts. w ∷ ts) others.same;
+        total = (let all = others.total in omega arith);
       }
 
   -- what is between the name and `do`, from the token after the name
-  record PrintedForWords (limit i n k : ℕ) (closed : Bool) (ds : List Document) (ws : Option (List Text)) (rest : List ℕ) : Type 0 where
+  record PrintedForWords (limit m i n k : ℕ) (closed : Bool) (ds : List Document) (ws : Option (List Text)) (rest : List ℕ) : Type 0 where
     at : ℕ
     count : ℕ
     bodies : List Document
@@ -89,9 +91,10 @@ module _ (b : List ℕ) where
     words : Option (List Word)
     reads : ReadsForWords limit b (place i n k closed [] ds) (place at count k closed [] bodies) words
     same : words_from b words ≡ ws
+    total : count ≡ n + m
 
-  for_words_print : {limit k : ℕ} {ws : Option (List Text)} → PrintableForWords limit k ws → (i n : ℕ) (closed : Bool) (ds : List Document) (rest : List ℕ) → drop i b ≡ front (for_words_text ws ++ 10 ∷ rest)
-      → lead_at (front rest) First 0 ≡ lead.Reserved word.Do → PrintedForWords limit i n k closed ds ws rest
+  for_words_print : {limit k m : ℕ} {ws : Option (List Text)} → PrintableForWords limit k m ws → (i n : ℕ) (closed : Bool) (ds : List Document) (rest : List ℕ) → drop i b ≡ front (for_words_text ws ++ 10 ∷ rest)
+      → lead_at (front rest) First 0 ≡ lead.Reserved word.Do → PrintedForWords limit m i n k closed ds ws rest
   unfolding reserved_text separator
   for_words_print {limit = limit} {k = k} p.arguments i n closed ds rest e do_is =
       let here : drop i b ≡ 10 ∷ rest = e ∙ front_none 10 rest refl refl refl in
@@ -105,6 +108,7 @@ module _ (b : List ℕ) where
         words = None;
         reads = r.arguments p.reads (lead_there b First p.at (front rest) p.behind ∙ do_is);
         same = refl;
+        total = p.total;
       }
   for_words_print {limit = limit} {k = k} (p.listed {ws = ws} printable) i n closed ds rest e do_is =
       let list = words_text ws ++ 10 ∷ rest in
@@ -123,6 +127,7 @@ module _ (b : List ℕ) where
         words = Some words.words;
         reads = r.listed (r.no_break (ap is_newline_lead in_is)) in_is words.reads p.separates p.reads;
         same = ap Some words.same;
+        total = (let all = p.total in let first = words.total in omega arith);
       }
     where
       words_gap : (ws : List Text) (rest : List ℕ) → Gap (words_text ws ++ 10 ∷ rest)
@@ -138,8 +143,8 @@ module _ (b : List ℕ) where
   for_gap (Some ws) rest = blank
 
   -- for NAME, its words, do, a list and done
-  pub for_prints : {limit k : ℕ} {name : Text} {ws : Option (List Text)} {items : bare.Items} (d : ℕ) → k < limit → Name name → PrintableForWords limit (k + 1) ws → PrintsList b limit (k + 1) (d + 1) items
-      → PrintsCompound b limit k d (bare.For name ws items)
+  pub for_prints : {limit k m o : ℕ} {name : Text} {ws : Option (List Text)} {items : bare.Items} (d : ℕ) → k < limit → Name name → PrintableForWords limit (k + 1) m ws → PrintsList b limit (k + 1) (d + 1) o items
+      → PrintsCompound b limit k d (m + o) (bare.For name ws items)
   unfolding items_text reserved_text begins_compound
   for_prints {k = k} {name = name} {ws = ws} {items = items} d deep named printable list = record {
     print = λ i n closed ds rest e close.
@@ -173,6 +178,7 @@ module _ (b : List ℕ) where
           begins = refl;
           kept = two.kept ∙ ap (λ t. t ++ two.met) words.kept;
           behind = two.behind;
+          total = (let all = two.total in let first = words.total in omega arith);
           reads = λ body f.
               let t = two.reads body (subst (λ x. Fits b body (length x) two.met) (sym words.kept) f) in (
                 kind.For (span j (name_end b j)) words.words t.0,

@@ -135,7 +135,7 @@ item_none depth first links more h k l = no_join (tabs depth) (first ++ (links +
 module _ {limit : ℕ} where
   -- Redirections, elements and words
 
-  redirect_none : {k : ℕ} {quiet : Bool} {r : bare.Redirect} → PrintableRedirect limit k quiet r → HasNoNul (redirect_text r) × Clean (redirect_documents r)
+  redirect_none : {k m : ℕ} {quiet : Bool} {r : bare.Redirect} → PrintableRedirect limit k quiet m r → HasNoNul (redirect_text r) × Clean (redirect_documents r)
   redirect_none (p.file {number = n} {direction = d} {w = w} number token word) =
       (no_join (number_text n) (direction_text d ++ 32 ∷ w) (number_none n number) (no_join (direction_text d) (32 ∷ w) (direction_none d) (no_cons 32 w refl word.no_nul)), tt)
   redirect_none (p.here_document {number = n} {strip = strip} {document = d} {w = w} number token word delimits document) = (
@@ -143,7 +143,7 @@ module _ {limit : ℕ} where
     (no_join d.body (d.end ++ 10 ∷ []) document.body_no_nul (no_join d.end (10 ∷ []) document.end_no_nul refl), tt),
   )
 
-  redirects_none : {k : ℕ} {quiet : Bool} {rs : List bare.Redirect} → PrintableRedirects limit k quiet rs
+  redirects_none : {k m : ℕ} {quiet : Bool} {rs : List bare.Redirect} → PrintableRedirects limit k quiet m rs
       → HasNoNul (flat_map (λ r. 32 ∷ redirect_text r) rs) × Clean (flat_map redirect_documents rs)
   redirects_none p.no_redirects = (refl, tt)
   redirects_none (p.more_redirects {r = r} {rs = rs} first more) =
@@ -151,7 +151,7 @@ module _ {limit : ℕ} where
       let rest = redirects_none more in
       (no_join (32 ∷ redirect_text r) _ (no_cons 32 (redirect_text r) refl one.0) rest.0, each_join document_text (redirect_documents r) (flat_map redirect_documents rs) one.1 rest.1)
 
-  elements_none : {k : ℕ} {g : Stage} {quiet : Bool} {es : List bare.Element} → PrintableElements limit k g quiet es → Texts (map element_text es) × Clean (flat_map element_documents es)
+  elements_none : {k m : ℕ} {g : Stage} {quiet : Bool} {es : List bare.Element} → PrintableElements limit k g quiet m es → Texts (map element_text es) × Clean (flat_map element_documents es)
   elements_none p.no_elements = (tt, tt)
   elements_none (p.assigned_element {name = name} {value = value} stage is word more) =
       let rest = elements_none more in
@@ -162,22 +162,22 @@ module _ {limit : ℕ} where
       let rest = elements_none more in
       ((one.0, rest.0), each_join document_text (redirect_documents r) (flat_map element_documents es) one.1 rest.1)
 
-  words_none : {k : ℕ} {ws : List Text} → PrintableWords limit k ws → Texts ws
+  words_none : {k m : ℕ} {ws : List Text} → PrintableWords limit k m ws → Texts ws
   words_none p.no_words = tt
   words_none (p.more_words token word more) = (word.no_nul, words_none more)
 
-  for_words_none : {k : ℕ} {o : Option (List Text)} → PrintableForWords limit k o → HasNoNul (for_words_text o)
+  for_words_none : {k m : ℕ} {o : Option (List Text)} → PrintableForWords limit k m o → HasNoNul (for_words_text o)
   for_words_none p.arguments = refl
   for_words_none (p.listed {ws = ws} words) = no_join (codes " in") (flat_map (λ w. 32 ∷ w) ws) refl (behind_none (32 ∷ []) ws refl (words_none words))
 
-  patterns_none : {k : ℕ} {ws : List Text} → PrintablePatterns limit k ws → Texts ws
+  patterns_none : {k m : ℕ} {ws : List Text} → PrintablePatterns limit k m ws → Texts ws
   patterns_none (p.last_pattern token word) = (word.no_nul, tt)
   patterns_none (p.more_patterns token word more) = (word.no_nul, patterns_none more)
 
   -- Commands
 
   -- a compound command with its redirections
-  body_none : {k : ℕ} {rs : List bare.Redirect} (depth : ℕ) (c : bare.Kind) → HasNoNul (kind_text depth c) × Clean (kind_pending c) → PrintableRedirects limit k false rs
+  body_none : {k m : ℕ} {rs : List bare.Redirect} (depth : ℕ) (c : bare.Kind) → HasNoNul (kind_text depth c) × Clean (kind_pending c) → PrintableRedirects limit k false m rs
       → HasNoNul (command_text depth (bare.command c rs)) × Clean (pending (bare.command c rs))
   unfolding pending items_text
   body_none {rs = rs} depth c given redirects =
@@ -187,7 +187,7 @@ module _ {limit : ℕ} where
   mutual
     unfolding pending last_pending pipeline_pending items_text
 
-    command_none : {k : ℕ} {c : bare.Command} (depth : ℕ) → PrintableCommand limit k c → HasNoNul (command_text depth c) × Clean (pending c)
+    command_none : {k m : ℕ} {c : bare.Command} (depth : ℕ) → PrintableCommand limit k m c → HasNoNul (command_text depth c) × Clean (pending c)
     command_none depth (p.simple_command {es = es} some elements) =
         let given = elements_none elements in
         (no_join (separated (32 ∷ []) (map element_text es)) [] (separated_none (32 ∷ []) (map element_text es) refl given.0) refl, each_join document_text (flat_map element_documents es) [] given.1 tt)
@@ -201,7 +201,7 @@ module _ {limit : ℕ} where
           each_join document_text (pending body) [] given.1 tt,
         )
 
-    compound_none : {k : ℕ} {c : bare.Kind} (depth : ℕ) → PrintableCompound limit k c → HasNoNul (kind_text depth c) × Clean (kind_pending c)
+    compound_none : {k m : ℕ} {c : bare.Kind} (depth : ℕ) → PrintableCompound limit k m c → HasNoNul (kind_text depth c) × Clean (kind_pending c)
     compound_none depth (p.group {list = items} l given) = (no_join (block depth (codes "{") (items_text (depth + 1) items)) (codes "}") (block_none depth (codes "{") (items_text (depth + 1) items) refl (list_none (depth + 1) given)) refl, tt)
     compound_none depth (p.subshell {list = items} l given) = (no_join (block depth (codes "(") (items_text (depth + 1) items)) (codes ")") (block_none depth (codes "(") (items_text (depth + 1) items) refl (list_none (depth + 1) given)) refl, tt)
     compound_none depth (p.conditional {branches = bs} {otherwise = o} l branches others) = (
@@ -226,17 +226,17 @@ module _ {limit : ℕ} where
         let lines = no_join (clauses_text depth clauses) (tabs depth ++ codes "esac") (clauses_none depth given) (no_join (tabs depth) (codes "esac") (tabs_none depth) refl) in
         (no_join (codes "case ") (w ++ (codes " in" ++ 10 ∷ rest)) refl (no_join w (codes " in" ++ 10 ∷ rest) word.no_nul (no_join (32 ∷ 105 ∷ 110 ∷ 10 ∷ []) rest refl lines)), tt)
 
-    branches_none : {k : ℕ} {bs : bare.Branches} (depth : ℕ) (opening : Text) → HasNoNul opening → PrintableBranches limit k bs → HasNoNul (branches_text depth opening bs)
+    branches_none : {k m : ℕ} {bs : bare.Branches} (depth : ℕ) (opening : Text) → HasNoNul opening → PrintableBranches limit k m bs → HasNoNul (branches_text depth opening bs)
     branches_none depth opening h (p.last_branch {condition = c} {body = x} first inner) = branch_none depth opening (items_text (depth + 1) c) (items_text (depth + 1) x) [] h (list_none (depth + 1) first) (list_none (depth + 1) inner) refl
     branches_none depth opening h (p.more_branches {condition = c} {body = x} {branches = bs} first inner more) =
         branch_none depth opening (items_text (depth + 1) c) (items_text (depth + 1) x) (branches_text depth (codes "elif") bs) h (list_none (depth + 1) first) (list_none (depth + 1) inner)
         (branches_none depth (codes "elif") refl more)
 
-    otherwise_none : {k : ℕ} {o : bare.Otherwise} (depth : ℕ) → PrintableOtherwise limit k o → HasNoNul (otherwise_text depth o)
+    otherwise_none : {k m : ℕ} {o : bare.Otherwise} (depth : ℕ) → PrintableOtherwise limit k m o → HasNoNul (otherwise_text depth o)
     otherwise_none depth p.no_else = refl
     otherwise_none depth (p.else_of {body = items} inner) = block_none depth (codes "else") (items_text (depth + 1) items) refl (list_none (depth + 1) inner)
 
-    clauses_none : {k : ℕ} {cs : bare.Clauses} (depth : ℕ) → PrintableClauses limit k cs → HasNoNul (clauses_text depth cs)
+    clauses_none : {k m : ℕ} {cs : bare.Clauses} (depth : ℕ) → PrintableClauses limit k m cs → HasNoNul (clauses_text depth cs)
     clauses_none depth p.no_clauses = refl
     clauses_none depth (p.more_clauses {patterns = ws} {body = items} {end = end} {clauses = cs} patterns inner more) =
         let ending = clause_end_text end ++ 10 ∷ clauses_text depth cs in
@@ -247,19 +247,19 @@ module _ {limit : ℕ} where
         (no_cons 40 (separated (codes " | ") ws ++ (41 ∷ 10 ∷ behind)) refl
         (no_join (separated (codes " | ") ws) (41 ∷ 10 ∷ behind) (separated_none (codes " | ") ws refl (patterns_none patterns)) (no_join (41 ∷ 10 ∷ []) behind refl lines)))
 
-    pipeline_none : {k : ℕ} {x : bare.Pipeline} (depth : ℕ) → PrintablePipeline limit k x → HasNoNul (pipeline_text depth x) × Clean (pipeline_pending x)
+    pipeline_none : {k m : ℕ} {x : bare.Pipeline} (depth : ℕ) → PrintablePipeline limit k m x → HasNoNul (pipeline_text depth x) × Clean (pipeline_pending x)
     pipeline_none depth (p.pipeline {negated = negated} {parts = parts} commands) =
         let given = commands_none depth commands in
         (no_join (negation negated) (commands_text depth parts) (negation_none negated) given.0, given.1)
 
-    commands_none : {k : ℕ} {cs : bare.Commands} (depth : ℕ) → PrintableCommands limit k cs → HasNoNul (commands_text depth cs) × Clean (last_pending [] cs)
+    commands_none : {k m : ℕ} {cs : bare.Commands} (depth : ℕ) → PrintableCommands limit k m cs → HasNoNul (commands_text depth cs) × Clean (last_pending [] cs)
     commands_none depth (p.last_command {c = c} first) = let given = command_none depth first in (no_join (command_text depth c) [] given.0 refl, given.1)
     commands_none depth (p.more_commands {c = c} {cs = cs} first more) =
         let given = command_none depth first in
         let rest = piped_none depth (pending c) given.1 more in
         (no_join (command_text depth c) (piped_text depth (pending c) cs) given.0 rest.0, rest.1)
 
-    piped_none : {k : ℕ} {cs : bare.Commands} (depth : ℕ) (ds : List Document) → Clean ds → PrintableCommands limit k cs → HasNoNul (piped_text depth ds cs) × Clean (last_pending ds cs)
+    piped_none : {k m : ℕ} {cs : bare.Commands} (depth : ℕ) (ds : List Document) → Clean ds → PrintableCommands limit k m cs → HasNoNul (piped_text depth ds cs) × Clean (last_pending ds cs)
     piped_none depth ds h (p.last_command {c = c} first) =
         let given = command_none depth first in
         (piped_one depth ds (command_text depth c ++ []) h (no_join (command_text depth c) [] given.0 refl), given.1)
@@ -268,7 +268,7 @@ module _ {limit : ℕ} where
         let rest = piped_none depth (pending c) given.1 more in
         (piped_one depth ds (command_text depth c ++ piped_text depth (pending c) cs) h (no_join (command_text depth c) (piped_text depth (pending c) cs) given.0 rest.0), rest.1)
 
-    links_none : {k : ℕ} {ls : bare.Links} (depth : ℕ) (ds : List Document) (background : Bool) → Clean ds → PrintableLinks limit k ls → HasNoNul (links_text depth ds ls background)
+    links_none : {k m : ℕ} {ls : bare.Links} (depth : ℕ) (ds : List Document) (background : Bool) → Clean ds → PrintableLinks limit k m ls → HasNoNul (links_text depth ds ls background)
     links_none depth ds background h p.no_links = no_join (background_text background) (line_end ds) (background_none background) (line_none ds h)
     links_none depth ds background h (p.more_links {link = l} {p = x} {rest = ls} first more) =
         let given = pipeline_none depth first in
@@ -276,7 +276,7 @@ module _ {limit : ℕ} where
         no_join (link_text l) (join depth ds ++ (pipeline_text depth x ++ rest)) (link_none l)
         (no_join (join depth ds) (pipeline_text depth x ++ rest) (join_none depth ds h) (no_join (pipeline_text depth x) rest given.0 (links_none depth (pipeline_pending x) background given.1 more)))
 
-    list_none : {k : ℕ} {items : bare.Items} (depth : ℕ) → PrintableList limit k items → HasNoNul (items_text depth items)
+    list_none : {k m : ℕ} {items : bare.Items} (depth : ℕ) → PrintableList limit k m items → HasNoNul (items_text depth items)
     list_none depth (p.last_item {first = x} {links = ls} {background = background} first links) =
         let given = pipeline_none depth first in
         item_none depth (pipeline_text depth x) (links_text depth (pipeline_pending x) ls background) [] given.0 (links_none depth (pipeline_pending x) background given.1 links) refl
@@ -284,9 +284,9 @@ module _ {limit : ℕ} where
         let given = pipeline_none depth first in
         item_none depth (pipeline_text depth x) (links_text depth (pipeline_pending x) ls background) (items_text depth rest) given.0 (links_none depth (pipeline_pending x) background given.1 links) (list_none depth more)
 
-    sequence_none : {k : ℕ} {items : bare.Items} (depth : ℕ) → PrintableSequence limit k items → HasNoNul (items_text depth items)
+    sequence_none : {k m : ℕ} {items : bare.Items} (depth : ℕ) → PrintableSequence limit k m items → HasNoNul (items_text depth items)
     sequence_none depth p.nothing = refl
     sequence_none depth (p.sequence given) = list_none depth given
 
-pub canonical_none : (limit : ℕ) (items : bare.Items) → Printable limit items → HasNoNul (items_text 0 items)
-canonical_none limit items given = sequence_none 0 given
+pub canonical_none : (limit m : ℕ) (items : bare.Items) → Printable limit m items → HasNoNul (items_text 0 items)
+canonical_none limit m items given = sequence_none 0 given

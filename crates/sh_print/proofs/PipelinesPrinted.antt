@@ -1,5 +1,5 @@
 -- Printed pipelines are read, given that the commands in them are.
-use Rattle.std.proofs.Common.{◌≡◌, ℕ, ◌+◌, Bool, true, false, List, [], ◌∷◌, ◌++◌, length, drop, codes, refl, sym, ap, subst, ◌∙◌, append_assoc, append-nil}
+use Rattle.std.proofs.Common.{◌≡◌, ℕ, ◌+◌, Bool, true, false, List, [], ◌∷◌, ◌++◌, length, drop, codes, refl, sym, ap, subst, ◌∙◌, append_assoc, append-nil, arith}
 use Rattle.sh_tree.specs.declared.tree.Command.{Command}
 use Rattle.sh_tree.specs.declared.tree.Pipe.{Pipe}
 use Rattle.sh_tree.specs.declared.token.command.Reserved.TheVariants as word
@@ -31,27 +31,29 @@ pub record IsPipeTail (rest : List ℕ) : Type 0 where
 module _ (b : List ℕ) where
   -- The commands of a pipeline
 
-  pub record PrintedCommands (limit i n k : ℕ) (closed : Bool) (ds : List Document) (cs : bare.Commands) (rest : List ℕ) : Type 0 where
+  pub record PrintedCommands (limit m i n k : ℕ) (closed : Bool) (ds : List Document) (cs : bare.Commands) (rest : List ℕ) : Type 0 where
     pub at : ℕ
     pub count : ℕ
     pub ended : Bool
     pub marks : List Mark
     pub bodies : List Document
     pub met : List bare.Document
-    pub marked : Marked b limit marks (last_pending [] cs)
+    pub left : ℕ
+    pub marked : Marked b limit left marks (last_pending [] cs)
+    pub total : count + left ≡ n + m
     pub kept : so_far b bodies (last_pending [] cs) ≡ so_far b ds [] ++ met
     pub behind : drop at b ≡ front rest
     pub reads : (body : ℕ → Document) → Fits b body (length (so_far b ds [])) met
         → (xs : List Command) × ReadsCommands limit b body (place i n k closed [] ds) (place at count k ended marks bodies) xs × (commands_from b xs ≡ cs)
 
-  pub record PrintsCommands (limit k d : ℕ) (cs : bare.Commands) : Type 0 where
+  pub record PrintsCommands (limit k d m : ℕ) (cs : bare.Commands) : Type 0 where
     pub starts : (rest : List ℕ) → IsTail rest → CommandStarts (commands_text d cs ++ rest)
     -- after another command
     pub piped : (waiting : List bare.Document) → piped_text d waiting cs ≡ codes " |" ++ (join d waiting ++ commands_text d cs)
     pub last : (waiting : List bare.Document) → last_pending waiting cs ≡ last_pending [] cs
-    pub print : (i n : ℕ) (closed : Bool) (ds : List Document) (rest : List ℕ) → drop i b ≡ commands_text d cs ++ rest → IsPipeTail rest → PrintedCommands limit i n k closed ds cs rest
+    pub print : (i n : ℕ) (closed : Bool) (ds : List Document) (rest : List ℕ) → drop i b ≡ commands_text d cs ++ rest → IsPipeTail rest → PrintedCommands limit m i n k closed ds cs rest
 
-  pub last_prints : {limit k : ℕ} {c : bare.Command} (d : ℕ) → PrintsCommand b limit k d c → PrintsCommands limit k d (bare.more_commands c bare.no_commands)
+  pub last_prints : {limit k m : ℕ} {c : bare.Command} (d : ℕ) → PrintsCommand b limit k d m c → PrintsCommands limit k d m (bare.more_commands c bare.no_commands)
   unfolding items_text last_pending commands_from
   last_prints {c = c} d one =
       let same : (rest : List ℕ) → commands_text d (bare.more_commands c bare.no_commands) ++ rest ≡ command_text d c ++ rest = λ rest. ap (λ t. t ++ rest) (append-nil (command_text d c)) in
@@ -68,7 +70,9 @@ module _ (b : List ℕ) where
               marks = p.marks;
               bodies = p.bodies;
               met = p.met;
+              left = p.left;
               marked = p.marked;
+              total = p.total;
               kept = p.kept;
               behind = p.behind;
               reads = λ body f. let x = p.reads body f in
@@ -76,7 +80,7 @@ module _ (b : List ℕ) where
             };
       }
 
-  pub more_prints : {limit k : ℕ} {c : bare.Command} {cs : bare.Commands} (d : ℕ) → PrintsCommand b limit k d c → PrintsCommands limit k d cs → PrintsCommands limit k d (bare.more_commands c cs)
+  pub more_prints : {limit k m o : ℕ} {c : bare.Command} {cs : bare.Commands} (d : ℕ) → PrintsCommand b limit k d m c → PrintsCommands limit k d o cs → PrintsCommands limit k d (m + o) (bare.more_commands c cs)
   unfolding items_text last_pending commands_from
   more_prints {limit = limit} {k = k} {c = c} {cs = cs} d one others =
       let later : List ℕ → List ℕ = λ rest. 32 ∷ 124 ∷ (join d (pending c) ++ (commands_text d cs ++ rest)) in
@@ -106,7 +110,9 @@ module _ (b : List ℕ) where
               marks = two.marks;
               bodies = two.bodies;
               met = p.met ++ two.met;
-              marked = subst (λ x. Marked b limit two.marks x) (sym (others.last (pending c))) two.marked;
+              left = two.left;
+              marked = subst (λ x. Marked b limit two.left two.marks x) (sym (others.last (pending c))) two.marked;
+              total = (let all = two.total in let second = q.total in let first = p.total in omega arith);
               kept = ap (so_far b two.bodies) (others.last (pending c)) ∙ kept_both (so_far b ds []) (so_far b q.bodies []) (so_far b two.bodies (last_pending [] cs)) p.met two.met first_kept two.kept;
               behind = two.behind;
               reads = λ body f.
@@ -122,14 +128,16 @@ module _ (b : List ℕ) where
 
   -- Pipelines
 
-  pub record PrintedPipeline (limit i n k : ℕ) (closed : Bool) (ds : List Document) (x : bare.Pipeline) (rest : List ℕ) : Type 0 where
+  pub record PrintedPipeline (limit m i n k : ℕ) (closed : Bool) (ds : List Document) (x : bare.Pipeline) (rest : List ℕ) : Type 0 where
     pub at : ℕ
     pub count : ℕ
     pub ended : Bool
     pub marks : List Mark
     pub bodies : List Document
     pub met : List bare.Document
-    pub marked : Marked b limit marks (pipeline_pending x)
+    pub left : ℕ
+    pub marked : Marked b limit left marks (pipeline_pending x)
+    pub total : count + left ≡ n + m
     pub kept : so_far b bodies (pipeline_pending x) ≡ so_far b ds [] ++ met
     pub behind : drop at b ≡ front rest
     pub reads : (body : ℕ → Document) → Fits b body (length (so_far b ds [])) met
@@ -140,11 +148,11 @@ module _ (b : List ℕ) where
     pub front_is : front cs ≡ cs
     pub begins : begins_pipeline (lead_at cs First 0) ≡ true
 
-  pub record PrintsPipeline (limit k d : ℕ) (x : bare.Pipeline) : Type 0 where
+  pub record PrintsPipeline (limit k d m : ℕ) (x : bare.Pipeline) : Type 0 where
     pub starts : (rest : List ℕ) → IsTail rest → PipelineStarts (pipeline_text d x ++ rest)
-    pub print : (i n : ℕ) (closed : Bool) (ds : List Document) (rest : List ℕ) → drop i b ≡ pipeline_text d x ++ rest → IsPipeTail rest → PrintedPipeline limit i n k closed ds x rest
+    pub print : (i n : ℕ) (closed : Bool) (ds : List Document) (rest : List ℕ) → drop i b ≡ pipeline_text d x ++ rest → IsPipeTail rest → PrintedPipeline limit m i n k closed ds x rest
 
-  pub pipeline_prints : {limit k : ℕ} {cs : bare.Commands} (d : ℕ) (negated : Bool) → PrintsCommands limit k d cs → PrintsPipeline limit k d (bare.pipeline negated cs)
+  pub pipeline_prints : {limit k m : ℕ} {cs : bare.Commands} (d : ℕ) (negated : Bool) → PrintsCommands limit k d m cs → PrintsPipeline limit k d m (bare.pipeline negated cs)
   unfolding items_text reserved_text pipeline_pending begins_pipeline
   pipeline_prints {cs = cs} d true commands = record {
     starts = λ rest tail. record {
@@ -162,7 +170,9 @@ module _ (b : List ℕ) where
           marks = p.marks;
           bodies = p.bodies;
           met = p.met;
+          left = p.left;
           marked = p.marked;
+          total = p.total;
           kept = p.kept;
           behind = p.behind;
           reads = λ body f. let xs = p.reads body f in
@@ -181,7 +191,9 @@ module _ (b : List ℕ) where
           marks = p.marks;
           bodies = p.bodies;
           met = p.met;
+          left = p.left;
           marked = p.marked;
+          total = p.total;
           kept = p.kept;
           behind = p.behind;
           reads = λ body f. let xs = p.reads body f in

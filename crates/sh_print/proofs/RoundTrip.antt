@@ -13,8 +13,8 @@ pub read_back : ReadsBack
 read_back b t limit count reads =
     let items = script_of b t in
     let can = printable b limit count t words_are_copied reads in
-    let again = printable_reads limit items can (canonical_none limit items can) in
-    (again.0, again.1, again.2, sym again.3)
+    let again = printable_reads limit count items can (canonical_none limit count items can) in
+    (again.0, again.1, sym again.2)
 
 -- a text that is the canonical one
 pub text_read_back : (b : List ℕ) (t : Script) (c : List ℕ) → c ≡ canon b t → IsReadBack b t c

@@ -1,5 +1,5 @@
 -- What a reading of a text knows of its words, numbers and here-documents.
-use Rattle.std.proofs.Common.{◌≡◌, ◌<◌, ℕ, zero, suc, ◌+◌, ◌==◌, Bool, true, false, ◌&&◌, ◌||◌, if◌then◌else◌, List, [], ◌∷◌, ◌++◌, length, drop, take, Option, Some, None, refl, sym, ap, subst, ◌∙◌, arith, length-append}
+use Rattle.std.proofs.Common.{◌≡◌, ◌<◌, ℕ, zero, suc, ◌+◌, ◌-◌, ◌==◌, Bool, true, false, ◌&&◌, ◌||◌, if◌then◌else◌, List, [], ◌∷◌, ◌++◌, length, drop, take, Option, Some, None, refl, sym, ap, subst, ◌∙◌, arith, length-append}
 use Rattle.std.specs.List.{list_any, list_all, take_while}
 use Rattle.std.specs.Option.{option_map}
 use Rattle.std.proofs.lemmas.Bool.{eq-eqb, or_parts, true≢false}
@@ -10,6 +10,7 @@ use Rattle.sh_tree.specs.declared.tree.Word.{Word}
 use Rattle.sh_tree.specs.declared.token.command.Operator.{Operator}
 use Rattle.sh_tree.specs.declared.token.command.Redirection.{Redirection}
 use Rattle.sh_tree.specs.declared.token.command.Stage.TheVariants.{Named}
+use Rattle.sh_tree.specs.declared.token.word.Context.{Context}
 use Rattle.sh_tree.specs.standard.Tree.{text_of}
 use Rattle.sh_tree.specs.standard.language.Bytes.{is_digit, is_first, run}
 use Rattle.sh_tree.specs.standard.language.Commands.{redirects, number_of, redirection_by, digits_end, operator, redirection, is_newline_lead, is_open}
@@ -19,6 +20,7 @@ use Rattle.sh_tree.specs.standard.language.Reading.{HasNoNul, ReadsWord, ReadsDo
 use Rattle.sh_tree.specs.standard.language.States.{Spot, Document, State, nth, waits}
 use Rattle.sh_tree.specs.standard.language.Trees as tree
 use Rattle.sh_tree.specs.standard.language.Trees.{span}
+use Rattle.sh_tree.proofs.Counts.{word_count, parts_count}
 use Rattle.sh_reads.proofs.FrontLemmas.{front_whole, run_passes, run_taken, run_within, stands_at, stands_text}
 use Rattle.sh_copies.specs.Copied.{Role, context_of, form_of, WordOf, IsMark, WordsAreCopied}
 use Rattle.sh_print.specs.Bare as bare
@@ -114,13 +116,26 @@ documents_level : {limit : ℕ} {b : List ℕ} {ms : List Mark} {s u : State} (d
 documents_level depth r.no_body k = k
 documents_level depth (r.more_bodies e a c h l ds) k = documents_level depth ds k
 
+documents_pending : {limit : ℕ} {b : List ℕ} {ms : List Mark} {s u : State} → ReadsDocuments limit b ms s u → u.pending ≡ s.pending
+documents_pending r.no_body = refl
+documents_pending (r.more_bodies e a c h l ds) = documents_pending ds
+
+-- Commands
+
+-- how many commands begin between both spots
+abbrev pub since : Spot → Spot → ℕ
+since s u = u.count - s.count
+
+pub word_since : {limit : ℕ} {b : List ℕ} {x : Context} {s u : Spot} {w : Word} → ReadsWord limit b x s u w → u.count ≡ s.count + since s u
+word_since reads = let grows = word_count reads in omega arith
+
 module _ (limit : ℕ) (b : List ℕ) (no_nul : HasNoNul b) (copies : WordsAreCopied) where
   -- Words
 
   pub word_given : {s u : Spot} {w : Word} (role : Role) (depth : ℕ) (quiet : Bool) → s.depth ≡ depth → s.joins ≡ false → s.tabs ≡ false → (quiet ≡ true → s.quiet ≡ true)
-      → ReadsWord limit b (context_of role b s.at) s u w → PrintableWord limit depth quiet role (form_of b w) (text_of b w.span)
+      → ReadsWord limit b (context_of role b s.at) s u w → PrintableWord limit depth quiet role (form_of b w) (since s u) (text_of b w.span)
   word_given {s = s} {u = u} {w = w} role depth quiet deep joins tabs loud reads =
-      let k : WordOf limit s.depth s.quiet role (form_of b w) (text_of b w.span) = copies.words limit b role s u w joins tabs reads in
+      let k : WordOf limit s.depth s.quiet role (form_of b w) (since s u) (text_of b w.span) = copies.words limit (since s u) b role s u w joins tabs (word_since reads) reads in
       record {
         no_nul = text_no_nul b w.span no_nul;
         copied = record {
@@ -138,58 +153,89 @@ module _ (limit : ℕ) (b : List ℕ) (no_nul : HasNoNul b) (copies : WordsAreCo
     abbrev pub Has : List Document → Type 0
     Has ds = (k : ℕ) → k < length ds → body k ≡ nth ds k
 
-    -- the bodies of those that wait, from the n-th on
-    abbrev pub Waiting : ℕ → List Mark → Type 0
-    Waiting n [] = Unit {0}
-    Waiting n (m ∷ ms) = (IsMark m → PrintableDocument limit m (document_of (body n))) × Waiting (n + 1) ms
+    -- the bodies of those that wait, from the n-th on, and how many commands begin in them
+    abbrev pub Waiting : ℕ → ℕ → List Mark → Type 0
+    Waiting held n [] = held ≡ 0
+    Waiting held n (m ∷ ms) = (own : ℕ) × (others : ℕ) × (held ≡ own + others) × (IsMark m → PrintableDocument limit m own (document_of (body n))) × Waiting others (n + 1) ms
 
     -- The bodies that came are the first ones, and each that waits will be read.
     abbrev pub Fits : State → Type 0
-    Fits s = Has s.bodies × Waiting (length s.bodies) s.pending
+    Fits s = (held : ℕ) × Has s.bodies × Waiting held (length s.bodies) s.pending
 
-    pub none_wait : (n : ℕ) (ms : List Mark) → waits ms ≡ false → Waiting n ms
+    -- What fits after a reading fits before it. The commands that begin in between, and those that
+    -- begin in what waits, are counted once.
+    abbrev pub Before : (s u : State) → Fits u → Type 0
+    Before s u f = (e : Fits s) × (u.spot.count + f.0 ≡ s.spot.count + e.0)
+
+    pub none_wait : (n : ℕ) (ms : List Mark) → waits ms ≡ false → Waiting 0 n ms
     unfolding waits
-    none_wait n [] h = tt
+    none_wait n [] h = refl
     none_wait n (m ∷ ms) h = absurd (true≢false h)
 
     -- the last of those that wait
-    last_waits : (n : ℕ) (ms : List Mark) (m : Mark) → Waiting n (ms ++ m ∷ []) → Waiting n ms × (IsMark m → PrintableDocument limit m (document_of (body (n + length ms))))
-    last_waits n [] m w = (tt, subst (λ k. IsMark m → PrintableDocument limit m (document_of (body k))) (let e : n ≡ n + 0 = omega arith in e) w.0)
-    last_waits n (o ∷ ms) m w =
-        let rest = last_waits (n + 1) ms m w.1 in
-        ((w.0, rest.0), subst (λ k. IsMark m → PrintableDocument limit m (document_of (body k))) (let e : n + 1 + length ms ≡ n + suc (length ms) = omega arith in e) rest.1)
+    last_waits : (held n : ℕ) (ms : List Mark) (m : Mark) → Waiting held n (ms ++ m ∷ [])
+        → (others : ℕ) × (own : ℕ) × (held ≡ others + own) × Waiting others n ms × (IsMark m → PrintableDocument limit m own (document_of (body (n + length ms))))
+    last_waits held n [] m w = (
+      0,
+      w.0,
+      (let both = w.2 in let none = w.4 in omega arith),
+      refl,
+      subst (λ k. IsMark m → PrintableDocument limit m w.0 (document_of (body k))) (let e : n ≡ n + 0 = omega arith in e) w.3,
+    )
+    last_waits held n (o ∷ ms) m w =
+        let rest = last_waits w.1 (n + 1) ms m w.4 in (
+          w.0 + rest.0,
+          rest.1,
+          (let both = w.2 in let more = rest.2 in omega arith),
+          (w.0, rest.0, refl, w.3, rest.3),
+          subst (λ k. IsMark m → PrintableDocument limit m rest.1 (document_of (body k))) (let e : n + 1 + length ms ≡ n + suc (length ms) = omega arith in e) rest.4,
+        )
 
-    documents_given : {ms : List Mark} {s u : State} → ReadsDocuments limit b ms s u → s.spot.joins ≡ false → s.spot.tabs ≡ false → Has u.bodies → Has s.bodies × Waiting (length s.bodies) ms
-    documents_given r.no_body joins tabs has = (has, tt)
+    documents_given : {ms : List Mark} {s u : State} → ReadsDocuments limit b ms s u → s.spot.joins ≡ false → s.spot.tabs ≡ false → Has u.bodies
+        → (held : ℕ) × Has s.bodies × Waiting held (length s.bodies) ms × (u.spot.count ≡ s.spot.count + held)
+    documents_given {s = s} r.no_body joins tabs has = (0, has, refl, (let e : s.spot.count ≡ s.spot.count + 0 = omega arith in e))
     documents_given (r.more_bodies {s = s} {u = u} {m = m} {ms = ms} {l = l} {ps = ps} found clear kept parts lines more) joins tabs has =
         let d : Document = record { text = tree.word s.spot.at l.start ps; end = l } in
         let rest = documents_given more joins tabs has in
         let long : length (s.bodies ++ d ∷ []) ≡ length s.bodies + 1 = length-append s.bodies (d ∷ []) in
-        let own : body (length s.bodies) ≡ d = rest.0 (length s.bodies) (omega arith) ∙ nth_last s.bodies d in (
-          λ k h. rest.0 k (omega arith) ∙ nth_front s.bodies d k h,
+        let own : body (length s.bodies) ≡ d = rest.1 (length s.bodies) (omega arith) ∙ nth_last s.bodies d in
+        let grows = parts_count parts in
+        let n = u.count - s.spot.count in (
+          n + rest.0,
+          λ k h. rest.1 k (omega arith) ∙ nth_front s.bodies d k h,
           (
-            λ mark. subst (λ x. PrintableDocument limit m (document_of x)) (sym own) (record {
+            n,
+            rest.0,
+            refl,
+            λ mark. subst (λ x. PrintableDocument limit m n (document_of x)) (sym own) (record {
               body_no_nul = text_no_nul b d.text.span no_nul;
               end_no_nul = text_no_nul b l no_nul;
-              copied = copies.documents limit b m s u l ps joins tabs mark found clear parts lines;
+              copied = copies.documents limit n b m s u l ps joins tabs mark found clear parts lines (omega arith);
             }),
-            subst (λ n. Waiting n ms) long rest.1,
+            subst (λ k. Waiting rest.0 k ms) long rest.2,
           ),
+          (let all = rest.3 in omega arith),
         )
 
-    pub breaks_given : {s u : State} (depth : ℕ) → ReadsBreaks limit b s u → Level depth s.spot → Level depth u.spot × (Fits u → Fits s)
-    breaks_given depth (r.no_break h) k = (k, λ f. f)
-    breaks_given depth (r.more_breaks h q ds more) k =
-        let rest = breaks_given depth more (documents_level depth ds k) in
-        (rest.0, λ f. documents_given ds k.2 k.3 (rest.1 f).0)
+    pub breaks_given : {s u : State} (depth : ℕ) → ReadsBreaks limit b s u → Level depth s.spot → Level depth u.spot × ((f : Fits u) → Before s u f)
+    breaks_given depth (r.no_break h) k = (k, λ f. (f, refl))
+    breaks_given depth (r.more_breaks {s = s} {u = u} {v = v} h q ds more) k =
+        let rest = breaks_given depth more (documents_level depth ds k) in (
+          rest.0,
+          λ f.
+              let e = rest.1 f in
+              let none : e.0.0 ≡ 0 = subst (λ ms. Waiting e.0.0 (length u.bodies) ms) (documents_pending ds) e.0.2 in
+              let came = documents_given ds k.2 k.3 e.0.1 in
+              ((came.0, came.1, came.2), (let both = e.1 in let all = came.3 in omega arith)),
+        )
 
-    pub parted_fits : (s : State) → Fits (parted b s) → Fits s
-    parted_fits s = either (λ u. Fits u → Fits s) (is_newline_lead (lead_here b s)) s (skip b 1 s) (λ f. f) (λ f. f)
+    pub parted_fits : (s v : State) (f : Fits v) → Before (parted b s) v f → Before s v f
+    parted_fits s v f = either (λ u. Before u v f → Before s v f) (is_newline_lead (lead_here b s)) s (skip b 1 s) (λ e. e) (λ e. e)
 
-    pub unopened_fits : (s : State) → Fits (unopened b s) → Fits s
-    unopened_fits s = either (λ u. Fits u → Fits s) (is_open (lead_of b (Named false) s)) (skip b 1 s) s (λ f. f) (λ f. f)
+    pub unopened_fits : (s v : State) (f : Fits v) → Before (unopened b s) v f → Before s v f
+    unopened_fits s v f = either (λ u. Before u v f → Before s v f) (is_open (lead_of b (Named false) s)) (skip b 1 s) s (λ e. e) (λ e. e)
 
     -- what fits after an operator fits before it, and its own body is read
-    pub last_fits : (s : State) (m : Mark) → Has s.bodies × Waiting (length s.bodies) (s.pending ++ m ∷ [])
-        → Fits s × (IsMark m → PrintableDocument limit m (document_of (body (length s.bodies + length s.pending))))
-    last_fits s m f = let last = last_waits (length s.bodies) s.pending m f.1 in ((f.0, last.0), last.1)
+    pub last_fits : (s : State) (m : Mark) (f : (held : ℕ) × Has s.bodies × Waiting held (length s.bodies) (s.pending ++ m ∷ []))
+        → (e : Fits s) × (own : ℕ) × (f.0 ≡ e.0 + own) × (IsMark m → PrintableDocument limit m own (document_of (body (length s.bodies + length s.pending))))
+    last_fits s m f = let last = last_waits f.0 (length s.bodies) s.pending m f.2 in ((last.0, f.1, last.3), last.1, last.2, last.4)

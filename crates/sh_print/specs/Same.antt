@@ -19,10 +19,12 @@ SamePrintsAlike = (b c : List ℕ) (t u : Script) → IsSame b t c u → canon b
 abbrev pub PrintsAgain : Type 0
 PrintsAgain = (b : List ℕ) (t u : Script) → IsSame b t (canon b t) u → canon (canon b t) u ≡ canon b t
 
--- If b reads to t within this limit of nesting, then c reads within it to a tree that is the same.
+-- If b reads to t within this limit of nesting, then c reads within it to a tree that is the same,
+-- with as many commands.
 abbrev pub IsReadBack : (b : List ℕ) → Script → (c : List ℕ) → Type 0
-IsReadBack b t c = (limit count : ℕ) → ReadsTo b limit count t → (n : ℕ) × (u : Script) × ReadsTo c limit n u × IsSame b t c u
+IsReadBack b t c = (limit count : ℕ) → ReadsTo b limit count t → (u : Script) × ReadsTo c limit count u × IsSame b t c u
 
--- The canonical text of a tree that a text reads to is read again, as a tree that is the same.
+-- The canonical text of a tree that a text reads to is read again, as a tree that is the same. If
+-- the text is within the limits of nesting and of commands, so is the canonical text.
 abbrev pub ReadsBack : Type 0
 ReadsBack = (b : List ℕ) (t : Script) → IsReadBack b t (canon b t)

@@ -19,7 +19,8 @@ use std::alloc::{AllocError, Global};
 /// The canonical text of a tree of the script. It has one item a line, one tab for each level,
 /// opening and closing words on lines of their own, and no comments. A word is its bytes in the
 /// script. The bodies of here-documents follow the next newline outside words (XCU 2.7.4). If the
-/// script reads to the tree, the text reads to a tree that differs only in offsets and numbers.
+/// script reads to the tree, the text reads to a tree that differs only in offsets and numbers. As
+/// many commands are read, nested no deeper.
 ///
 /// # Errors
 ///

@@ -14,8 +14,8 @@ pub fn again()
     ensures { PrintsAgain }
 {}
 
-/// The canonical text of a tree that a text reads to is read again. Its tree differs only in
-/// offsets and numbers, and is nested no deeper.
+/// The canonical text of a tree that a text reads to is read again, with as many commands. Its tree
+/// differs only in offsets and numbers, and is nested no deeper.
 pub fn reads_back()
     ensures { ReadsBack }
 {}
