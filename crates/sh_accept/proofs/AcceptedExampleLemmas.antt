@@ -179,7 +179,6 @@ compact_short = let so_long : length sure_compact_text ≡ 74 = refl in omega ar
 
 pub known_is_accepted : KnownIsAccepted
 known_is_accepted = record {
-  accepted = linted_is_checked.best true double_text with_x double_script sheet sure_text double_best double_accepted full_spelled full_short;
   passes = linted_is_checked.best true double_text with_x double_script sheet sure_text double_best double_accepted full_spelled full_short;
   compact_passes = linted_is_checked.best false double_text with_x double_script sheet sure_compact_text double_best double_accepted compact_spelled compact_short;
   lints = (sheet, double_accepted);

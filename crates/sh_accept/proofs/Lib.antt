@@ -19,6 +19,7 @@ pub mod OneGreatestLemmas
 pub mod SingleLemmas
 pub mod ReadLemmas
 pub mod PrintLemmas
+pub mod PrintedLemmas
 pub mod PassedLemmas
 pub mod WrittenLemmas
 pub mod StartLemmas

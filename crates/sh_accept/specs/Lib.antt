@@ -8,6 +8,7 @@ pub mod Fillable
 pub mod Greatest
 pub mod Single
 pub mod Passed
+pub mod Printed
 pub mod Written
 pub mod Inside
 pub mod Once

@@ -8,6 +8,7 @@ ghost use Rattle.sh_accept.specs.Inside.{RefusalsStandInside};
 ghost use Rattle.sh_accept.specs.Once.{PlacesStandOnce};
 ghost use Rattle.sh_accept.specs.Parts.{PartsAlwaysAnswer};
 ghost use Rattle.sh_accept.specs.Passed.{LintedIsChecked};
+ghost use Rattle.sh_accept.specs.Printed.{PrintedIsRead};
 ghost use Rattle.sh_accept.specs.Shown.{ShownIsGreatest};
 ghost use Rattle.sh_accept.specs.Single.{HasOneGreatest};
 ghost use Rattle.sh_accept.specs.Statics.{StaticsAreTexts};
@@ -81,6 +82,12 @@ pub fn shown()
 /// written is one text with one exit status.
 pub fn written()
     ensures { TellsOneAnswer }
+{}
+
+/// If the text that is printed of a script is no longer than a script may be, it is read as a tree
+/// that differs only in offsets and numbers. It is printed as itself, unless memory runs out.
+pub fn printed()
+    ensures { PrintedIsRead }
 {}
 
 /// What is read of a compact certificate's text, for a script that is admitted, meets what `fill`

@@ -8,7 +8,6 @@ use Rattle.sh_domain.specs.examples.CompactTexts.{compact_header}
 use Rattle.sh_domain.specs.examples.Programs.{declared}
 use Rattle.sh_domain.specs.examples.Texts.{lines, with_line}
 use Rattle.sh_answers.specs.declared.verdict.Verdict.TheVariants.{Pass}
-use Rattle.sh_accept.specs.Accepted.{IsAcceptedText}
 use Rattle.sh_accept.specs.Answers.{Checks, HasBestText, Lints}
 use Rattle.sh_accept.specs.examples.Answers.{sure_line}
 
@@ -24,10 +23,9 @@ sure_text = with_line sure_line
 abbrev pub sure_compact_text : Text
 sure_compact_text = lines (compact_header ∷ codes "commands 1 functions 0 loops 0" ∷ codes "s 0:IFS,OPTIND,PPID,x:" ∷ [])
 
--- From the bytes of `echo "$x"`, if x is declared: this certificate is accepted, a check of either
--- version passes, and a lint does. These are the texts of the greatest certificate.
+-- From the bytes of `echo "$x"`, if x is declared: a check of either version passes, and a lint
+-- does. These are the texts of the greatest certificate.
 pub record KnownIsAccepted : Type 0 where
-  pub accepted : IsAcceptedText double_text with_x sure_text
   pub passes : Checks double_text with_x sure_text (Ok Pass)
   pub compact_passes : Checks double_text with_x sure_compact_text (Ok Pass)
   pub lints : Lints double_text with_x (Ok Pass)
