@@ -1,5 +1,5 @@
 //! A row as bits.
-ghost use Rattle.std.specs.Prelude.{◌≡◌, ◌<◌, ℕ, true, length};
+ghost use Rattle.std.specs.Prelude.{◌≡◌, ◌<◌, ◌==◌, ◌||◌, ℕ, IsOk, true, length};
 ghost use Rattle.std.specs.Int.{div_ceil};
 ghost use Rattle.sh_rows.specs.Numbers.{has_bit};
 
@@ -58,7 +58,17 @@ impl Row for BitRow {
         })
     }
 
-    fn add(&mut self, n: u32) -> Result<(), AllocError> {
+    /// Adds `n`. It takes no memory.
+    ///
+    /// # Errors
+    ///
+    /// None.
+    fn add(&mut self, n: u32) -> Result<(), AllocError>
+        requires { n < self.old.count }
+        ensures always { IsOk result }
+        ensures numbers { (k : ℕ) → has_bit k self.new.words.items ≡ (k == n || has_bit k self.old.words.items) }
+        ensures count { self.new.count ≡ self.old.count }
+    {
         set(&mut self.words, n);
         Ok(())
     }

@@ -1,11 +1,12 @@
 -- Static texts, one part after another.
-use Rattle.std.proofs.Common.{◌≡◌, ◌≢◌, ℕ, zero, suc, ◌==◌, Bool, true, false, if◌then◌else◌, ◌+◌, ◌-◌, ◌<◌, ◌≤◌, ◌⊎◌, inl, inr, Option, Some, None, List, [], ◌∷◌, ◌++◌, length, get_or, take, drop, refl, ap, ◌∙◌, add-one, drop-cons, append_assoc, length-drop, take_all, arith}
+use Rattle.std.proofs.Common.{◌≡◌, ℕ, suc, ◌==◌, Bool, true, false, if◌then◌else◌, ◌+◌, ◌-◌, ◌<◌, ◌≤◌, ◌⊎◌, inl, inr, Option, Some, None, List, [], ◌∷◌, ◌++◌, length, get_or, take, drop, refl, ap, sym, ◌∙◌, add-one, drop-cons, append_assoc, length-append, length-drop, take_all, arith}
 use Rattle.std.proofs.lemmas.Bool.{ne_eqb}
 use Rattle.std.proofs.lemmas.Option.{none-some}
 use Rattle.std.proofs.lemmas.List.{drop_all, append-nil, length-take-le}
 use Rattle.sh_tree.specs.declared.tree.Part.{Part}
 use Rattle.sh_tree.specs.declared.tree.SingleStyle.{SingleStyle}
 use Rattle.sh_tree.specs.declared.tree.SingleStyle.TheVariants as single
+use Rattle.sh_tree.specs.Fronts.{front_with, part_front, parts_front}
 use Rattle.sh_tree.specs.standard.Words.{both_texts, part_text, parts_text, escape_of, escaped, behind_first, between_ends, single_text}
 
 -- a text that is not static makes the whole not static
@@ -36,24 +37,29 @@ pub text_stop : (b : List ℕ) (ps : List Part) (i : ℕ) (t : List ℕ) → len
 unfolding parts_text
 text_stop b ps i t h = rw (drop_all i ps h, append-nil) refl
 
--- Texts that are not empty
+-- Fronts
 
-pub some_text : (x : Option (List ℕ)) (t : List ℕ) → x ≡ Some t → 0 < length t → x ≢ Some []
-some_text x [] e h d = absurd (omega arith)
-some_text x (c ∷ t) e h d = cc
+longer_front : (front : List ℕ) (x : Option (List ℕ)) (others : List ℕ) → length front ≤ length (front_with front x others)
+longer_front front None others = omega arith
+longer_front front (Some t) others = omega (arith, length-append front others)
 
-both_empty : (x y : Option (List ℕ)) → both_texts x y ≡ Some [] → (x ≡ Some []) × (y ≡ Some [])
-both_empty None y e = absurd (none-some [] e)
-both_empty (Some t) None e = absurd (none-some [] e)
-both_empty (Some []) (Some u) e = (refl, e)
-both_empty (Some (c ∷ t)) (Some u) e = cc
+longer_rest : (front t u others : List ℕ) (x : Option (List ℕ)) → Some u ≡ both_texts (Some t) x → length others ≤ length (front_with front x others)
+longer_rest front t u others None e = absurd (none-some u (sym e))
+longer_rest front t u others (Some v) e = omega (arith, length-append front others)
 
--- a part whose text is not empty makes the whole one not empty
-pub text_some : (b : List ℕ) (ps : List Part) (i : ℕ) (x : Part) → i < length ps → x ≡ get_or ps i x → part_text b x ≢ Some [] → parts_text b ps ≢ Some []
-unfolding parts_text
-text_some b [] i x h e n w = absurd (omega arith)
-text_some b (y ∷ ps) zero x h e n w = n (ap (part_text b) e ∙ (both_empty (part_text b y) (parts_text b ps) w).0)
-text_some b (y ∷ ps) (suc i) x h e n w = text_some b ps i x (omega arith) e n (both_empty (part_text b y) (parts_text b ps) w).1
+-- after a part that is static, the front of what is left is no longer
+pub front_step : (b : List ℕ) (ps : List Part) (i : ℕ) (x : Part) (old new : List ℕ) → i < length ps → x ≡ get_or ps i x
+    → Some new ≡ both_texts (Some old) (part_text b x)
+    → length (parts_front b (drop (i + 1) ps)) ≤ length (parts_front b (drop i ps))
+unfolding parts_front
+front_step b ps i x old new h e n =
+    rw (drop-cons ps i x h, add-one, ← e) (longer_rest (part_front b x) old new (parts_front b (drop (suc i) ps)) (part_text b x) n)
+
+-- a part whose front is not empty
+pub front_some : (b : List ℕ) (ps : List Part) (i : ℕ) (x : Part) → i < length ps → x ≡ get_or ps i x → 0 < length (part_front b x)
+    → 0 < length (parts_front b (drop i ps))
+unfolding parts_front
+front_some b ps i x h e some = rw (drop-cons ps i x h, ← e) (omega (arith, longer_front (part_front b x) (part_text b x) (parts_front b (drop (suc i) ps))))
 
 -- The bytes between `$'` and `'`
 

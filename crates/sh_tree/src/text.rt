@@ -1,7 +1,8 @@
 //! The text of words that hold no expansion.
-ghost use Rattle.std.specs.Prelude.{◌≡◌, ◌≢◌, ◌<◌, ◌++◌, ◌∷◌, [], false, if◌then◌else◌, Some, None, IfOk, OnErr, length, option_map};
+ghost use Rattle.std.specs.Prelude.{◌≡◌, ◌<◌, ◌++◌, ◌∷◌, [], false, if◌then◌else◌, Some, None, IfOk, OnErr, length, option_map};
 ghost use Rattle.std.specs.List.{list_any};
 ghost use Rattle.std.specs.Str.{bytes_eq};
+ghost use Rattle.sh_tree.specs.Fronts as fronts;
 ghost use Rattle.sh_tree.specs.standard.Words as words;
 ghost use Rattle.sh_tree.specs.standard.Words.{both_texts};
 
@@ -14,11 +15,13 @@ use std::alloc::{AllocError, Global};
 ///
 /// # Errors
 ///
-/// `AllocError` if a growth was refused, which requires a word without such a byte.
+/// `AllocError` if a growth was refused. That requires a word without such a byte, and text before
+/// its first expansion.
 #[tactic(auto, unfolding(crate::specs::standard::Words::static_text))]
 pub fn static_text(alloc: Global, word: &Word, script: &[u8]) -> Result<Option<Vec<u8>>, AllocError>
     ensures text { IfOk result (λ found. option_map (λ v. v.items) found ≡ words.static_text script.now word.now.parts) }
-    ensures memory { OnErr result (words.is_pattern script.now word.now.parts ≡ false) }
+    ensures pattern { OnErr result (words.is_pattern script.now word.now.parts ≡ false) }
+    ensures memory { OnErr result (0 < length (fronts.parts_front script.now word.now.parts)) }
 {
     if is_pattern(word.parts.as_slice(), script) {
         return Ok(None);
@@ -31,7 +34,7 @@ pub fn static_text(alloc: Global, word: &Word, script: &[u8]) -> Result<Option<V
 ///
 /// # Errors
 ///
-/// `AllocError` if a growth was refused, but not for a word whose text is empty.
+/// `AllocError` if a growth was refused, which requires text before the first expansion.
 #[tactic(auto, using(crate::proofs::TextLemmas::both_texts_none))]
 pub fn unquoted_text(
     alloc: Global,
@@ -39,7 +42,7 @@ pub fn unquoted_text(
     script: &[u8],
 ) -> Result<Option<Vec<u8>>, AllocError>
     ensures text { IfOk result (λ found. option_map (λ v. v.items) found ≡ words.parts_text script.now word.now.parts) }
-    ensures memory { OnErr result (words.parts_text script.now word.now.parts ≢ Some []) }
+    ensures memory { OnErr result (0 < length (fronts.parts_front script.now word.now.parts)) }
 {
     let mut text = Vec::new(alloc);
     let is_static = push_parts(word.parts.as_slice(), script, &mut text)?;
@@ -50,7 +53,7 @@ pub fn unquoted_text(
 #[cycle(text)]
 fn push_parts(parts: &[Part], script: &[u8], text: &mut Vec<u8>) -> Result<bool, AllocError>
     ensures text { IfOk result (λ all. (if all then Some text.new.items else None) ≡ both_texts (Some text.old.items) (words.parts_text script.now parts.now)) }
-    ensures memory { OnErr result (words.parts_text script.now parts.now ≢ Some []) }
+    ensures memory { OnErr result (0 < length (fronts.parts_front script.now parts.now)) }
 {
     for part in parts {
         let is_static = push_part(part, script, &mut *text)?;
@@ -63,10 +66,10 @@ fn push_parts(parts: &[Part], script: &[u8], text: &mut Vec<u8>) -> Result<bool,
 
 /// Adds the text of a part, and says whether it is static.
 #[cycle(text)]
-#[tactic(auto, unfolding(crate::specs::standard::Words::part_text))]
+#[tactic(auto, unfolding(crate::specs::standard::Words::part_text, crate::specs::Fronts::part_front))]
 fn push_part(part: &Part, script: &[u8], text: &mut Vec<u8>) -> Result<bool, AllocError>
     ensures text { IfOk result (λ all. (if all then Some text.new.items else None) ≡ both_texts (Some text.old.items) (words.part_text script.now part.now)) }
-    ensures memory { OnErr result (words.part_text script.now part.now ≢ Some []) }
+    ensures memory { OnErr result (0 < length (fronts.part_front script.now part.now)) }
 {
     match part {
         Part::Plain(span) => {

@@ -28,10 +28,10 @@ loop-left-preserved c =
     let x = c.first_piece.result in
     record {
       numbers = numbers_on c.args.names.now c.loop-left.row (bits_of c.args.row.now) (pieces 44 c.args.text.now) c.loop-left.left x.1 c.in-Some.rest x.0 c.in-Some.is c.first_piece.ensures.pieces c.add.new.self c.in-Some-number_from.number
-          c.requires.distinct c.in-Some-number_from.ensures c.in_ok-add.ensures.ok c.loop-left.invariant.numbers;
+          c.requires.distinct c.in-Some-number_from.ensures c.add.ensures.numbers c.loop-left.invariant.numbers;
       known = known_on c.args.names.now c.loop-left.row (bits_of c.args.row.now) (pieces 44 c.args.text.now) c.loop-left.left x.1 c.in-Some.rest x.0 c.in-Some.is c.first_piece.ensures.pieces c.in-Some-number_from.number c.in-Some-number_from.ensures
           c.loop-left.invariant.known;
-      count = c.add.ensures.limit ∙ c.loop-left.invariant.count;
+      count = c.add.ensures.count ∙ c.loop-left.invariant.count;
     }
 
 pub returns-clause-numbers : goal.returns-clause-numbers
