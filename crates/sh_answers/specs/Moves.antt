@@ -19,7 +19,7 @@ Had (Some xs) limit b = b ≡ take limit xs
 abbrev pub TookWhole : Counts → Counts → Option (List ℕ) → Option (List ℕ) → ℕ → Type 0
 TookWhole old new before left limit = (b : List ℕ) × Consumes before left b × IsReadWhole old new left limit (length b)
 
--- nothing failed while at most so many bytes were taken
+-- reads were interrupted, no more than a read bears, or nothing was counted
 abbrev pub BoreAll : Counts → Counts → Type 0
 BoreAll old new = BoreOnly old new ⊎ MovedNothing old new
 

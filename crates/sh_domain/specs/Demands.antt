@@ -21,7 +21,7 @@ use Rattle.sh_domain.specs.Rules.{functions_of, losses}
 use Rattle.sh_domain.specs.Table.{Manner, Utility, manner}
 use Rattle.sh_domain.specs.Views.{Certificate, Before, Loss, lost}
 
--- N1 to N3: the parameters, tildes and names of arithmetic in the words of a command
+-- U1 to U3: the parameters, tildes and names of arithmetic in the words of a command
 
 -- the words of a simple command one after the other, and after them each redirection and each value
 -- by itself
@@ -46,7 +46,7 @@ kind_unmet f (p.For name ws body) = for_words_unmet f ws
 kind_unmet f (p.Case w cs) = word_unmet f w ++ clauses_unmet (through w f) cs
 kind_unmet f _ = []
 
--- N4: what a command in a part of a pipeline may drop
+-- P1: what a command in a part of a pipeline may drop
 
 unfoldable pub with_text : List Text → Text → List Text
 with_text names t = if is_one_of names t then names else names ++ t ∷ []
@@ -59,7 +59,7 @@ each_once losses = fold with_text [] (flat_map (λ l. l.vars ++ l.functions) los
 abbrev pub dropped : Facts → Certificate → ℕ → List Loss → List Text
 dropped start c n ls = each_once (map (lost start c n) ls)
 
--- N5: a command that changes the positional parameters
+-- P2: a command that changes the positional parameters
 
 unfoldable pub kind_moves : Kind → List Word → Bool
 kind_moves (kind.Special known.Shift) ws = true
@@ -86,7 +86,7 @@ move_at at true = record { at = at; code = P2; subject = [] } ∷ []
 unfoldable pub is_reached : Facts → Bool
 is_reached f = not (claims f Nowhere)
 
--- N4 and N5 of the command n that is there, in a part of a pipeline
+-- P1 and P2 of the command n that is there, in a part of a pipeline
 unfoldable pub shared_unmet : Facts → Certificate → List Text → Entered → ℕ → ℕ → p.Kind → List Place
 shared_unmet start c functions e n at kind =
     map (drop_at at) (dropped start c n (losses functions e)) ++ move_at at (command_moves functions kind && is_reached (facts (c.claim (Before n))))

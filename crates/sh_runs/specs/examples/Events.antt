@@ -28,10 +28,8 @@ x_alone = codes "x" ∷ []
 pub record EventsExist : Type 0 where
   -- `echo "$x"`, with nothing declared
   pub not_set : HasUnsetEvent [] double_text double_script
-  -- `unset x
-  -- echo "$x"` and `echo "$x"
-  -- unset x`, with x declared: the parts share the environment, and the one that removes x goes
-  -- first
+  -- `unset x | echo "$x"` and `echo "$x" | unset x`, with x declared: the parts share the
+  -- environment, and the one that removes x goes first
   pub removed_on_the_left : HasUnsetEvent x_alone unset_first_text unset_first_script
   pub removed_on_the_right : HasUnsetEvent x_alone unset_last_text unset_last_script
   -- `echo $x`, with x declared

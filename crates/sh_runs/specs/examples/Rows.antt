@@ -63,9 +63,8 @@ pub record RowsAsExpected : Type 0 where
       (map in_shell ((line (codes "break") ∷ []) ∷ (line (codes "continue") ∷ []) ∷ (line (codes "return") ∷ [])
       ∷ (over x a_and_b (line (codes ":") ∷ []) ∷ line (codes "break") ∷ []) ∷ (function f (line (codes "break") ∷ []) ∷ in_for (says_one f ∷ []))
       ∷ in_for (function f (line (codes "continue") ∷ []) ∷ says_one f ∷ []) ∷ (function f (line (codes ":") ∷ []) ∷ says_one f ∷ line (codes "return") ∷ []) ∷ []))
-  -- in a loop, `( break )`, `: $(break)`, `{ break & }`, `{ break
-  -- :; }`; in a function, `( return )`, `{ return
-  -- :; }`
+  -- in a loop, `( break )`, `: $(break)`, `{ break & }`, `{ break | :; }`; in a function,
+  -- `( return )`, `{ return | :; }`
   pub in_another_process :
       refused_and_without
       (map in_started (in_for (subshell (line (codes "break") ∷ []) ∷ []) ∷ in_for (substituted (line (codes "break") ∷ []) ∷ [])
@@ -92,7 +91,7 @@ pub record RowsAsExpected : Type 0 where
       admitted_and_with
       (map in_started ((subshell (in_for (line (codes "break") ∷ [])) ∷ [])
       ∷ (function f (subshell (in_for (line (codes "continue") ∷ [])) ∷ line (codes "return") ∷ []) ∷ says_one f ∷ []) ∷ []))
-  -- `trap - INT`, `trap -- '' INT`, `command ls`, `command -v eval`, `set -e`, `ls`
+  -- `trap - INT`, `trap -- 2`, `command ls`, `command -v eval`, `set -e`, `ls`
   pub with_meaning :
       admitted_and_with
       (map in_shell ((line (codes "trap - INT") ∷ []) ∷ (line (codes "trap -- 2") ∷ []) ∷ (line (codes "command ls") ∷ []) ∷ (line (codes "command -v eval") ∷ [])

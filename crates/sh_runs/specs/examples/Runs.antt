@@ -510,9 +510,8 @@ pub record RunsAsExpected : Type 0 where
   pub case_without_match : status (ran bare_start [] unmatched (steps 0 16)) ≡ Some 0
   -- `case a in a) ;; esac`: the status is the answer's
   pub case_empty_list : status (ran bare_start [] empty_clause (steps 0 5 ++ by 0 (matching 5) ∷ [])) ≡ Some 5
-  -- `x=1
-  -- y=2`: the shell waits for parts that share; both variables are set then, in either order; parts
-  -- that copy set neither in the shell
+  -- `x=1 | y=2`: the shell waits for parts that share; both variables are set then, in either
+  -- order; parts that copy set neither in the shell
   pub pipeline_waits : steps_next (ran bare_start [] piped (shared ++ steps 1 5)) ≡ Some false
   pub pipeline_goes_on : steps_next (ran bare_start [] piped (shared ++ steps 1 5 ++ steps 2 5)) ≡ Some true
   pub shared_left_first : x_is (ran bare_start [] piped (shared ++ steps 1 5 ++ steps 2 5)) ≡ Some (Some (codes "1"))

@@ -605,6 +605,8 @@ pub record CallsAsExpected : Type 0 where
   pub return_in_function : x_and_status quiet (function f (returns ∷ one x ∷ []) ∷ says_one f ∷ notes ∷ []) ≡ None ∷ just (codes "3") ∷ []
   pub return_alone : x_and_status (with_status 7) (function f (says_one (codes "return") ∷ one x ∷ []) ∷ says_one f ∷ notes ∷ []) ≡ None ∷ just (codes "7") ∷ []
   pub return_beyond : x_and_status (with_status 7) (function f (says (codes "return" ∷ codes "256" ∷ []) ∷ []) ∷ says_one f ∷ notes ∷ []) ≡ None ∷ just (codes "7") ∷ []
+  pub return_outside : x_and_status quiet (returns ∷ notes ∷ []) ≡ None ∷ just (codes "3") ∷ []
+  pub return_ends : x_and_status ending (returns ∷ notes ∷ []) ≡ None ∷ None ∷ []
   -- `f() { return "$x"; }; x=3; f`: an operand that is computed may give any status
   pub return_computed :
       x_and_status (with_status 7) (function f (utility (plain (codes "return") ∷ value_of x ∷ []) ∷ []) ∷ assign x (codes "3") ∷ says_one f ∷ notes ∷ []) ≡ just (codes "3") ∷ just (codes "7") ∷ []
@@ -612,8 +614,6 @@ pub record CallsAsExpected : Type 0 where
   -- and the function that it returns from
   pub work_is_numbered :
       option_map (λ r. flat_map numbered r.work) ((far 30 0 quiet (start_world bare_start [] numbered_calls)).processes 0) ≡ Some ((5, []) ∷ (3, []) ∷ (6, f) ∷ [])
-  pub return_outside : x_and_status quiet (returns ∷ notes ∷ []) ≡ None ∷ just (codes "3") ∷ []
-  pub return_ends : x_and_status ending (returns ∷ notes ∷ []) ≡ None ∷ None ∷ []
   -- `f() { for x in a b; do return 3; done; }; f`: the loop is left
   pub return_in_loop : x_and_status quiet (function f (over x a_and_b (returns ∷ []) ∷ []) ∷ says_one f ∷ notes ∷ []) ≡ just (codes "a") ∷ just (codes "3") ∷ []
   -- `f() { g() { x=1; }; }; f; g`, and without `f`, so that g is a utility;
@@ -638,8 +638,8 @@ pub record CallsAsExpected : Type 0 where
   -- `sleep 1 & ( x="$!" )`: `!` is in the copy, or is lost
   pub job_is_carried : job_met true ≡ false
   pub job_is_lost : job_met false ≡ true
-  -- `case a in "${x=t}"
-  -- "${y=t}") z=1;; esac`: the first pattern matches; the second one, tried first, does; none does
+  -- `case a in "${x=t}"|"${y=t}") z=1;; esac`: the first pattern matches; the second one, tried
+  -- first, does; none does
   pub pattern_first : seen (record quiet { matches = true }) (x ∷ y ∷ z ∷ []) two_patterns ≡ just (codes "t") ∷ None ∷ just (codes "1") ∷ []
   pub pattern_second : seen (record quiet { matches = true; pattern = 1 }) (x ∷ y ∷ z ∷ []) two_patterns ≡ None ∷ just (codes "t") ∷ just (codes "1") ∷ []
   pub pattern_none :
@@ -648,8 +648,7 @@ pub record CallsAsExpected : Type 0 where
   -- `shift | ls`: a part that shares removes a parameter of the shell, and another part does not
   pub shift_shared : (behind (1 ∷ 2 ∷ 0 ∷ []) (parted true (shifts []) (says_one (codes "ls")))).frames 0 ≡ codes "b" ∷ []
   pub shift_copied : (behind (1 ∷ 2 ∷ 0 ∷ []) (parted false (shifts []) (says_one (codes "ls")))).frames 0 ≡ a_and_b
-  -- `{ x=1; x=2; }
-  -- y="$x"`, with parts that share: y is read before, between and after
+  -- `{ x=1; x=2; } | y="$x"`, with parts that share: y is read before, between and after
   pub interleaved :
       map (λ n. value y (behind (1 ∷ 0 ∷ []) (behind (2 ∷ []) (far n 1 quiet (parted true twice (gives y (value_of x))))))) (0 ∷ 9 ∷ 100 ∷ [])
       ≡ just [] ∷ just (codes "1") ∷ just (codes "2") ∷ []

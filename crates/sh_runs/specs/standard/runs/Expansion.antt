@@ -105,8 +105,8 @@ star_pieces c e f = if c.split then star_split (value_origin c.plain) else Bytes
 unfoldable pub at_pieces : Context → Frame → List Piece
 at_pieces c f = if c.split then broken (value_origin c.plain) f else Bytes (value_origin c.plain) (at_text f) ∷ []
 
--- whether the word is `$@` alone, or holds it: double quotes round it give no field of their own
--- (XCU 2.5.2)
+-- whether a part is `$@`, and whether a word holds it: double quotes round it give no field of
+-- their own (XCU 2.5.2)
 unfoldable pub is_every : Part → Bool
 is_every (Expansion at (Special special.At) Value) = true
 is_every _ = false

@@ -26,7 +26,7 @@ closes Paren b i = is_closed b i
 closes Backquote b i = is_last_backquote (drop i b)
 
 -- A backslash that is removed before the commands are read (XCU 2.6.3): before `$`, a backquote or
--- a backslash. In double quotes it is any, as in shells.
+-- a backslash. In double quotes it may be any (XCU 2.2.3).
 unfoldable pub has_removed_backslash : Bool → List ℕ → Bool
 has_removed_backslash quoted [] = false
 has_removed_backslash quoted (c ∷ cs) = (is_backslash c && (quoted || is_first (is_in (codes "$`\\")) cs)) || has_removed_backslash quoted cs

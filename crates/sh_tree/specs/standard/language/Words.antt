@@ -233,8 +233,8 @@ braced_expansion_by i cs None = special_or_length i cs
 unfoldable pub braced_expansion : ℕ → List ℕ → Sign × ℕ
 braced_expansion i cs = braced_expansion_by i cs (parameter (i + 2) cs)
 
--- A byte that a backslash in `$'` keeps, or makes another byte (XCU 2.2.4). Others are refused:
--- `c`, `x` and octal digits.
+-- A byte that a backslash in `$'` keeps, or makes another byte (XCU 2.2.4). Others are refused, `c`,
+-- `x` and octal digits among them.
 abbrev pub is_dollar_escape : ℕ → Bool
 is_dollar_escape c = is_in (codes "\"'\\abefnrtv") c
 
