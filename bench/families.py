@@ -396,6 +396,11 @@ def loses_by_one(calls):
     return reached_by_others("F() { case x in\n", "N) fN; unset vN;;\n", calls, "", "esac; }\n")
 
 
+def in_main(made):
+    """All of a script in a function that is called once."""
+    return lambda size: "main() {\n" + made(size) + "}\nmain\n"
+
+
 def enters_with_less(body):
     """A function of a long body, which is entered with less by one caller after the other, from the last to the first."""
     return lambda size: reached_back("F() {\n" + body * (size // 3 // len(body)) + "}\n", "( C; F ) | b\n", "a|b\n", "")(size)
@@ -803,6 +808,9 @@ FAMILIES = {
     "calls of one that loses in loops": (loses_by_one("while a; do " * 50 + "F" + "; done" * 50 + "\n"), ()),
     "calls of one that loses in bodies": (loses_by_one("h() { F; F; F; }\nh\n"), ()),
     "calls of one that loses deep in bodies": (loses_by_one("h() { " + "{ " * 40 + "F" + "; }" * 40 + "; }\nh\n"), ()),
+    "calls of one that loses in main": (in_main(loses_by_one("F\n")), ()),
+    "calls of one that loses in words in main": (in_main(loses_by_one("b $(F)\n")), ()),
+    "calls of one that loses in loops in main": (in_main(loses_by_one("while a; do " * 50 + "F" + "; done" * 50 + "\n")), ()),
     "entered with less": (enters_with_less("a\n"), ()),
     "entered with less in links": (enters_with_less("a && a || a\n"), ()),
     "entered with less in a loop": (enters_with_less("while a; do b; done\n"), ()),

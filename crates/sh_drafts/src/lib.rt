@@ -32,7 +32,6 @@ pub use spot::{Spot, fitting, of_command};
 pub use subject::Subject;
 pub use target::Target;
 pub use wakes::{
-    begin_outside, enter_function, holds_back, look, look_again, note_lowered, note_place,
-    wake_late,
+    begin_pass, enter_function, holds_back, look, look_again, note_lowered, note_place, wake_late,
 };
 pub use writable::Writable;

@@ -20,6 +20,11 @@ const FEW_COMMANDS: u32 = 64;
 // In so many passes more than others either may fall before it is late.
 const MORE_PASSES: u32 = 2;
 
+// In how many passes more than others a function falls before it is late.
+fn passes_more(is_small: bool) -> u32 {
+    if is_small { MORE_PASSES } else { 0 }
+}
+
 // Adds an index to a set. Reports whether it was not there.
 fn is_news(indices: &mut Flags, index: u16) -> bool {
     let is_news = !indices.has(u32::from(index));
@@ -42,11 +47,7 @@ fn wake_bodies(subject: &Subject<'_>, waiting: &mut Waiting, index: u16) -> Resu
         return Ok(());
     }
     let definitions = definitions_of(subject, u32::from(index));
-    let more = if are_long(subject, definitions) {
-        0
-    } else {
-        MORE_PASSES
-    };
+    let more = passes_more(!are_long(subject, definitions));
     if waiting.late_entries.keeps(u32::from(index), more) {
         return Ok(());
     }
@@ -81,19 +82,15 @@ fn wake_callers(waiting: &mut Waiting, index: u16) -> Result<(), AllocError> {
     if !is_news(&mut waiting.called, index) {
         return Ok(());
     }
-    let more = if has_few_callers(waiting, index as usize) {
-        MORE_PASSES
-    } else {
-        0
-    };
+    let more = passes_more(has_few_callers(waiting, index as usize));
     if waiting.late_calls.keeps(u32::from(index), more) {
         return Ok(());
     }
     waiting.wait_calls(index as usize)
 }
 
-/// A pass over the commands outside of functions begins.
-pub fn begin_outside(waiting: &mut Waiting) {
+/// A pass begins: over the commands outside of functions, or over the bodies in each order.
+pub fn begin_pass(waiting: &mut Waiting) {
     waiting.late_calls.begin();
     waiting.late_entries.begin();
 }

@@ -22,7 +22,7 @@ ghost use Rattle.sh_drafts.specs.Ready.{IsReady, IsSwept, Keeps};
 use crate::own::is_entered;
 use crate::sweep::{LEVELS, sweep_definition, sweep_items};
 use sh_domain::{Certificate, FlowRule, Knowledge};
-use sh_drafts::{Draft, Place, Subject, begin_outside, enter_function, lower_assured, wake_late};
+use sh_drafts::{Draft, Place, Subject, begin_pass, enter_function, lower_assured, wake_late};
 use sh_rules::{Around, Course, Place as Slot, alone, begun};
 use sh_sweeps::known::{nonzero_of, zero_of};
 use sh_sweeps::nowhere::nothing_behind;
@@ -249,7 +249,7 @@ fn sweep_outside(subject: &Subject<'_>, draft: &mut Draft) -> Result<(), AllocEr
     requires { IsReady subject.now draft.old.certificate draft.old.probe.count }
     ensures { IfOk result (λ unit. IsSwept subject.now draft.old.certificate draft.new.certificate draft.new.probe.count) }
 {
-    begin_outside(&mut draft.waiting);
+    begin_pass(&mut draft.waiting);
     let mut course = from_start(subject, &*draft);
     let outside = alone();
     let items = subject.tree.items.as_slice();
@@ -272,7 +272,11 @@ fn next_unit(
     subject: &Subject<'_>,
     waiting: &mut Waiting,
 ) -> Result<Option<Unit>, AllocError> {
+    let rounds = waiting.units.rounds();
     let unit = waiting.next_unit(alloc, subject.table)?;
+    if waiting.units.rounds() != rounds {
+        begin_pass(waiting);
+    }
     if unit.is_some() {
         return Ok(unit);
     }

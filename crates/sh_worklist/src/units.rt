@@ -232,6 +232,11 @@ impl Units {
         }
     }
 
+    /// How often as many courses began as there are: a hint.
+    pub fn rounds(&self) -> u32 {
+        self.courses / COURSES as u32
+    }
+
     /// A pass over a body begins. The body waits no longer.
     ///
     /// # Errors

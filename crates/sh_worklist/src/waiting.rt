@@ -18,7 +18,7 @@ use crate::units::{Unit, Units};
 use sh_table::CallTable;
 use std::alloc::{AllocError, Global};
 
-// What falls of a function in so few passes over the commands outside is not late.
+// What falls of a function in so few passes is not late.
 const FEW_PASSES: u32 = 1;
 
 // What falls in an item in so few sweeps is not late.
